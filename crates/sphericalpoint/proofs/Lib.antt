@@ -1,0 +1,3 @@
+mod Tolerances
+mod Sizes
+mod Cases

@@ -1,0 +1,26 @@
+-- `sphericalpoint::normalize_unless_short` meets its contract, whichever way its test goes. Assumes nothing.
+use mathlib.Core.Path.{_≡_, _∙_}
+use mathlib.Core.Bool.{true, false}
+use lib.Ieee.{lt}
+use Rattle.sphericalpoint.specs.Vector.{equalityTolerance, xyzLength}
+use Rattle.sphericalpoint.proofs.Tolerances.{equality-bits}
+use Rattle.sphericalpoint.proofs.Cases.{short-stays, long-divided}
+use borrow.Author.Needs.{needs}
+use Rattle.sphericalpoint.proofs.normalize_unless_short.Statement.{statement}
+use Rattle.sphericalpoint.proofs.normalize_unless_short.Tie as tie
+
+xyz-length-requires : tie.Need-xyz-length-requires
+xyz-length-requires c κs = search needs
+
+xyz-div-f64-requires : tie.Need-xyz-div-f64-requires
+xyz-div-f64-requires c κs = search needs
+
+returns : tie.Need-returns
+returns c = short-stays (c .before .before .args .xyz) (cc equality-bits)
+
+returns-2 : tie.Need-returns-2
+returns-2 c = cc (long-divided (c .before .before .before .args .xyz) (cc equality-bits))
+
+pub normalize-unless-short-spec : {M : Type 1} → statement M
+normalize-unless-short-spec =
+    tie.close (tie.spec xyz-length-requires xyz-div-f64-requires returns returns-2)

@@ -1,0 +1,14 @@
+-- The laws of the square root. `WholeRoots`, `NearestLaw` and `KnownRoots` are for others to cite; the rest serves the proofs of `src/sqrt.rt`.
+pub mod WholeRoots
+pub mod NearestLaw
+pub mod KnownRoots
+mod Squares
+mod Zimmermann
+mod TableRule
+mod Tower
+mod Halfway
+mod Units
+mod Patterns
+mod Placed
+mod Edges
+mod Spacing

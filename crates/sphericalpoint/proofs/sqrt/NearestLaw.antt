@@ -1,0 +1,90 @@
+-- The law: for every finite `f64` x above zero, `sqrtOf x` is the `f64` nearest to √x, and no other float is. Assumes nothing.
+-- So `NearestRoot x r` and `r ≡ sqrtOf x` say the same of such an x.
+use mathlib.Core.Path.{_≡_, refl, sym, ap, _∙_, subst}
+use mathlib.Core.Bool.{true, false}
+use Prim.Native.Nat.{ℕ, zero, suc, _+_, _*_, _^_, _≤_, _<_}
+use native.Mathlib.Nat.{lt-of-le-of-lt, le-of-suc-le-suc, mul-pos, zero-lt-suc}
+use native.Mathlib.Omega.{arith}
+use lib.Dec.{T}
+use lib.Pow.{pow-pos}
+use lib.Ieee.{Float, nan, inf, fin, binary64, units, fits}
+use lib.Ieee.Exact.{HasValue}
+use lib.Ieee.Positive.{positive}
+use Rattle.sphericalpoint.specs.Sqrt.{isqrt, sqrtOf}
+use Rattle.sphericalpoint.specs.NearestRoot.{inUnits, NearestRoot}
+use Rattle.sphericalpoint.specs.RootStep.{WholeRoot}
+use Rattle.sphericalpoint.proofs.sqrt.Squares.{lt-of-pow-lt}
+use Rattle.sphericalpoint.proofs.sqrt.WholeRoots.{isqrt-floor}
+use Rattle.sphericalpoint.proofs.sqrt.Halfway.{half, radicand}
+use Rattle.sphericalpoint.proofs.sqrt.Units.{in-format, placeOf, at-place, units-of, units-lt, value-not-negative, same-units, root-by-units, placed-fits, placed-value}
+use Rattle.sphericalpoint.proofs.sqrt.Placed.{Parts, placed, scale, scaled, near-root, root54-ge, root53-lt, root-is}
+use Rattle.sphericalpoint.proofs.sqrt.Spacing.{Sides, on-grid, sides}
+
+-- ---- of x = m * 2 ^ e units
+
+module _ (x : Float) {m e : ℕ} (p : Parts m e) (v : HasValue x false (m * 2 ^ e) (2 ^ 1074)) where
+  abbrev root54 : ℕ
+  root54 = isqrt (placed m e * 2 ^ 54)
+
+  whole : WholeRoot (placed m e * 2 ^ 54) root54
+  whole = isqrt-floor (placed m e * 2 ^ 54)
+
+  abbrev root : Float
+  root = units binary64 false (half root54) (scale m e + 1)
+
+  root-value : HasValue root false (half root54 * 2 ^ (scale m e + 1)) (2 ^ 1074)
+  root-value = placed-value (half root54) (scale m e + 1) (root53-lt p whole) (near-root p)
+
+  rounded-is : sqrtOf x ≡ root
+  rounded-is = root-by-units x (m * 2 ^ e) (mul-pos (p .some) (pow-pos e)) v ∙ root-is p whole
+
+  own-side : Sides (inUnits x * 2 ^ 1074) (inUnits root)
+  own-side =
+      let a : inUnits x * 2 ^ 1074 ≡ radicand (placed m e) (scale m e) = ap (λ (n : ℕ). n * 2 ^ 1074) (units-of x false (m * 2 ^ e) v) ∙ scaled p in
+      let w : inUnits root ≡ half root54 * 2 ^ (scale m e + 1) = units-of root false (half root54 * 2 ^ (scale m e + 1)) root-value in
+      subst (λ (n : ℕ). Sides n (inUnits root)) (sym a)
+      (subst (λ (n : ℕ). Sides (radicand (placed m e) (scale m e)) n) (sym w) (sides (placed m e) (scale m e) whole (root54-ge p whole)))
+
+  root-nearest : NearestRoot x root
+  root-nearest = record {
+    held = placed-fits (half root54) (scale m e + 1) (root53-lt p whole) (near-root p);
+    from-zero = value-not-negative root (half root54 * 2 ^ (scale m e + 1)) (2 ^ 1074) root-value;
+    larger = λ y F q. own-side (inUnits y) (on-grid y F) .0;
+    smaller = λ y F q. own-side (inUnits y) (on-grid y F) .1;
+  }
+
+  parts-nearest : NearestRoot x (sqrtOf x)
+  parts-nearest = subst (NearestRoot x) (sym rounded-is) root-nearest
+
+-- ---- of every x
+
+pub sqrt-nearest : (x : Float) → T (fits binary64 x) → T (positive x) → NearestRoot x (sqrtOf x)
+sqrt-nearest nan F p = absurd p
+sqrt-nearest (inf s) F p = absurd p
+sqrt-nearest (fin true m e) F p = absurd p
+sqrt-nearest (fin false zero e) F p = absurd p
+sqrt-nearest (fin false (suc m) e) F p =
+    let b = in-format false m e F in
+    let v : HasValue (fin false (suc m) e) false (suc m * 2 ^ placeOf e) (2 ^ 1074) = (refl, at-place (suc m) e (b .1)) in
+    parts-nearest (fin false (suc m) e) (record { some = zero-lt-suc m; few = b .0; near = near (placeOf e) (subst (λ (n : ℕ). n < 2 ^ 2098) (units-of (fin false (suc m) e) false (suc m * 2 ^ placeOf e) v) (units-lt (fin false (suc m) e) F)) }) v
+  where
+    least : (x y : ℕ) → x ≤ suc y * x
+    least x y = omega arith
+
+    near : (j : ℕ) → suc m * 2 ^ j < 2 ^ 2098 → j ≤ 2097
+    near j l = le-of-suc-le-suc (lt-of-pow-lt j 2098 (lt-of-le-of-lt (least (2 ^ j) m) l))
+
+-- ---- and of nothing else
+
+not-less : (x r t : Float) → NearestRoot x r → NearestRoot x t → inUnits r < inUnits t → ⊥
+not-less x r t h k l = go (inUnits r) (inUnits t) (h .larger t (k .held) (k .from-zero) l) (k .smaller r (h .held) (h .from-zero) l)
+  where
+    go : (a b : ℕ) {c : ℕ} → c < (a + b) * (a + b) → (b + a) * (b + a) < c → ⊥
+    go a b f g = omega arith
+
+pub nearest-root-unique : (x r t : Float) → NearestRoot x r → NearestRoot x t → r ≡ t
+nearest-root-unique x r t h k =
+    same-units r t (h .held) (k .held) (h .from-zero) (k .from-zero) (equal (inUnits r) (inUnits t) (not-less x r t h k) (not-less x t r k h))
+  where
+    equal : (a b : ℕ) → (a < b → ⊥) → (b < a → ⊥) → a ≡ b
+    equal a b p q = omega arith

@@ -1,0 +1,21 @@
+-- `sphericalpoint::xyz_length` meets its contract by what its calls ensure. Assumes nothing.
+use Rattle.sphericalpoint.specs.Vector.{xyzLength}
+use borrow.Author.Needs.{needs}
+use Rattle.sphericalpoint.proofs.xyz_length.Statement.{statement}
+use Rattle.sphericalpoint.proofs.xyz_length.Tie as tie
+
+xyz-mul-xyz-requires : tie.Need-xyz-mul-xyz-requires
+xyz-mul-xyz-requires c κs = search needs
+
+xyz-sum-requires : tie.Need-xyz-sum-requires
+xyz-sum-requires c κs = search needs
+
+sqrt-requires : tie.Need-sqrt-requires
+sqrt-requires c κs = search needs
+
+returns : tie.Need-returns
+unfolding xyzLength
+returns c = cc
+
+pub xyz-length-spec : {M : Type 1} → statement M
+xyz-length-spec = tie.close (tie.spec xyz-mul-xyz-requires xyz-sum-requires sqrt-requires returns)

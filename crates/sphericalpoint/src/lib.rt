@@ -1,0 +1,207 @@
+// The vector layer: a point of three floats, its tolerances, and the functions of sphericalpoint.rs on it,
+// with the source's names. A point goes by value; each float operation is rounded once, in the source's order.
+// Every function takes any floats, infinities and NaN among them.
+ghost use mathlib.Core.Path.{_≡_};
+ghost use lib.Ieee.{binary64};
+ghost use Rattle.ieee754.specs.Size.{abs};
+ghost use Rattle.sphericalpoint.specs.Vector.{xyzAdd, xyzSub, xyzMul, xyzDiv, xyzNeg, xyzAbs, xyzSum, xyzDot, xyzCross, xyzLength, xyzEq, normalized};
+ghost use Rattle.sphericalpoint.specs.Point.{normalizedUnlessShort, pointFrom, betweenInPlane, xyzsCoplanar};
+
+pub mod sqrt;
+
+#[repr(C)]
+pub struct SphericalPoint {
+    pub x: f64,
+    pub y: f64,
+    pub z: f64,
+}
+
+impl SphericalPoint {
+    // Two points closer than this are equal, and a vector shorter than this is not divided by its length.
+    pub const EQUALITY_TOLERANCE: f64 = 3e-11;
+
+    // How far from a leg's plane, and from antipodal, `xyzs_coplanar` looks.
+    pub const COPLANAR_TOLERANCE: f64 = 2e-8;
+
+    // A length less than this above 1 counts as 1 in `from`.
+    pub const UNIT_TOLERANCE: f64 = 2e-11;
+
+    // The point with these coordinates, as they are.
+    pub fn new(x: f64, y: f64, z: f64) -> Self
+        ensures { λ r. ⌜ r ≡ record { x = x; y = y; z = z } ⌝ }
+    {
+        Self { x, y, z }
+    }
+
+    // A point by itself: kept if its length minus 1 is below the unit tolerance, else normalised.
+    pub fn from(x: f64, y: f64, z: f64) -> Self
+        ensures { λ r. ⌜ r ≡ pointFrom (record { x = x; y = y; z = z }) ⌝ }
+    {
+        let xyz = SphericalPoint { x, y, z };
+        if xyz_length(xyz) - 1.0 < Self::UNIT_TOLERANCE {
+            xyz
+        } else {
+            normalize(xyz)
+        }
+    }
+}
+
+pub fn xyz_add_xyz(a: SphericalPoint, b: SphericalPoint) -> SphericalPoint
+    ensures { λ r. ⌜ r ≡ xyzAdd a b ⌝ }
+{
+    SphericalPoint {
+        x: a.x + b.x,
+        y: a.y + b.y,
+        z: a.z + b.z,
+    }
+}
+
+pub fn xyz_sub_xyz(a: SphericalPoint, b: SphericalPoint) -> SphericalPoint
+    ensures { λ r. ⌜ r ≡ xyzSub a b ⌝ }
+{
+    SphericalPoint {
+        x: a.x - b.x,
+        y: a.y - b.y,
+        z: a.z - b.z,
+    }
+}
+
+pub fn xyz_mul_xyz(a: SphericalPoint, b: SphericalPoint) -> SphericalPoint
+    ensures { λ r. ⌜ r ≡ xyzMul a b ⌝ }
+{
+    SphericalPoint {
+        x: a.x * b.x,
+        y: a.y * b.y,
+        z: a.z * b.z,
+    }
+}
+
+pub fn xyz_div_f64(a: SphericalPoint, b: f64) -> SphericalPoint
+    ensures { λ r. ⌜ r ≡ xyzDiv a b ⌝ }
+{
+    SphericalPoint {
+        x: a.x / b,
+        y: a.y / b,
+        z: a.z / b,
+    }
+}
+
+pub fn xyz_neg(xyz: SphericalPoint) -> SphericalPoint
+    ensures { λ r. ⌜ r ≡ xyzNeg xyz ⌝ }
+{
+    SphericalPoint {
+        x: -xyz.x,
+        y: -xyz.y,
+        z: -xyz.z,
+    }
+}
+
+// The size of a float: the sign is cleared, of a zero too.
+fn size(x: f64) -> f64
+    ensures { λ r. ⌜ r ≡ abs x ⌝ }
+{
+    if x < 0.0 {
+        return -x;
+    }
+    if x == 0.0 {
+        return 0.0;
+    }
+    x
+}
+
+pub fn xyz_abs(xyz: SphericalPoint) -> SphericalPoint
+    ensures { λ r. ⌜ r ≡ xyzAbs xyz ⌝ }
+{
+    SphericalPoint {
+        x: size(xyz.x),
+        y: size(xyz.y),
+        z: size(xyz.z),
+    }
+}
+
+pub fn xyz_sum(xyz: SphericalPoint) -> f64
+    ensures { λ r. ⌜ r ≡ xyzSum xyz ⌝ }
+{
+    xyz.x + xyz.y + xyz.z
+}
+
+pub fn xyz_dot(a: SphericalPoint, b: SphericalPoint) -> f64
+    ensures { λ r. ⌜ r ≡ xyzDot a b ⌝ }
+{
+    xyz_sum(xyz_mul_xyz(a, b))
+}
+
+pub fn xyz_cross(a: SphericalPoint, b: SphericalPoint) -> SphericalPoint
+    ensures { λ r. ⌜ r ≡ xyzCross a b ⌝ }
+{
+    SphericalPoint {
+        x: a.y * b.z - a.z * b.y,
+        y: a.z * b.x - a.x * b.z,
+        z: a.x * b.y - a.y * b.x,
+    }
+}
+
+pub fn xyz_length(xyz: SphericalPoint) -> f64
+    ensures { λ r. ⌜ r ≡ xyzLength xyz ⌝ }
+{
+    sqrt::sqrt(xyz_sum(xyz_mul_xyz(xyz, xyz)))
+}
+
+// Divided by its length, whatever that is: a zero vector becomes NaNs.
+pub fn normalize(xyz: SphericalPoint) -> SphericalPoint
+    ensures { λ r. ⌜ r ≡ normalized xyz ⌝ }
+{
+    xyz_div_f64(xyz, xyz_length(xyz))
+}
+
+// Normalised as the points of a string are: a vector shorter than the equality tolerance stays as it is.
+pub fn normalize_unless_short(xyz: SphericalPoint) -> SphericalPoint
+    ensures { λ r. ⌜ r ≡ normalizedUnlessShort xyz ⌝ }
+{
+    let length = xyz_length(xyz);
+    if length < SphericalPoint::EQUALITY_TOLERANCE {
+        xyz
+    } else {
+        xyz_div_f64(xyz, length)
+    }
+}
+
+// Whether the sum of absolute differences is strictly below the equality tolerance.
+pub fn xyz_eq(a: SphericalPoint, b: SphericalPoint) -> bool
+    ensures { λ r. ⌜ r ≡ xyzEq a b ⌝ }
+{
+    xyz_sum(xyz_abs(xyz_sub_xyz(a, b))) < SphericalPoint::EQUALITY_TOLERANCE
+}
+
+// Whether c is near the plane of a and b and between them, given the cross product of a and b and its length.
+fn between_in_plane(
+    a: SphericalPoint,
+    b: SphericalPoint,
+    c: SphericalPoint,
+    normal: SphericalPoint,
+    normal_length: f64,
+) -> bool
+    ensures { λ r. ⌜ r ≡ betweenInPlane a b c normal «normal_length» ⌝ }
+{
+    let ab = xyz_dot(a, b);
+    let coplanar = size(xyz_dot(c, normal)) / normal_length < SphericalPoint::COPLANAR_TOLERANCE;
+    let interior_of_minor_arc = (xyz_dot(a, c) >= ab) & (xyz_dot(b, c) >= ab);
+    let not_antipodal = ab > -1.0 + SphericalPoint::COPLANAR_TOLERANCE;
+    coplanar & interior_of_minor_arc & not_antipodal
+}
+
+// Whether a and b or b and c are equal, or c lies on the leg from a to b. Callers pass the point that they ask
+// about as b: the source does so, and its answers are kept.
+pub fn xyzs_coplanar(a: SphericalPoint, b: SphericalPoint, c: SphericalPoint) -> bool
+    ensures { λ r. ⌜ r ≡ xyzsCoplanar a b c ⌝ }
+{
+    if xyz_eq(a, b) | xyz_eq(b, c) {
+        return true;
+    }
+    let normal = xyz_cross(a, b);
+    let normal_length = xyz_length(normal);
+    if normal_length < SphericalPoint::COPLANAR_TOLERANCE {
+        return false;
+    }
+    between_in_plane(a, b, c, normal, normal_length)
+}
