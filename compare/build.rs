@@ -2,7 +2,9 @@
 fn main() {
     let folder = std::env::var("STATICLIB").expect("STATICLIB: the folder of the static libraries");
     println!("cargo:rustc-link-search=native={folder}");
-    println!("cargo:rustc-link-lib=static=sphericalpoint_c");
-    println!("cargo:rerun-if-changed={folder}");
+    for library in ["sphericalpoint_c", "arcstring_c"] {
+        println!("cargo:rustc-link-lib=static={library}");
+        println!("cargo:rerun-if-changed={folder}/lib{library}.a");
+    }
     println!("cargo:rerun-if-env-changed=STATICLIB");
 }

@@ -1,7 +1,11 @@
 //! Compares the proved libraries with the published Rust and with the processor, bit for bit (any NaN with any NaN).
 //! A line for each kind of case says how often it came; a difference prints its input and ends the run with 1.
+mod bench;
+mod calls;
+mod expected;
 mod random;
 mod roots;
+mod strings;
 mod vectors;
 
 use std::collections::BTreeMap;
@@ -28,7 +32,7 @@ impl Tally {
                 println!("DIFFERENT: {}", input());
             }
         }
-        if self.done % (1 << 22) == 0 {
+        if self.done % (1 << 16) == 0 {
             eprint!("\r{} compared", self.done);
         }
     }
@@ -61,6 +65,13 @@ fn main() {
     let n = size("vectors", 3_000_000);
     if n > 0 {
         same &= run("vectors", n, vectors::run);
+    }
+    let n = size("strings", 600_000);
+    if n > 0 {
+        same &= run("strings", n, strings::run);
+    }
+    if words.is_empty() || words.iter().any(|w| w == "bench") {
+        bench::run();
     }
     std::process::exit(if same { 0 } else { 1 });
 }

@@ -1,0 +1,165 @@
+//! The calls of arcstring_c, as include/arcstring.h declares them, each with what it left in the buffers lent to it.
+use crate::random::Xyz;
+
+/// What a buffer holds before a call, so that a stray write shows.
+pub const BLANK: f64 = -7.25;
+pub const BLANK_BYTE: u8 = 0xA5;
+pub const BLANK_COUNT: u64 = 0x5A5A_5A5A;
+
+mod c {
+    #![allow(improper_ctypes)]
+    unsafe extern "C" {
+        pub fn arcstring_xyz_eq(ax: f64, ay: f64, az: f64, bx: f64, by: f64, bz: f64, yes: *mut u8) -> u32;
+        pub fn arcstring_xyzs_coplanar(ax: f64, ay: f64, az: f64, bx: f64, by: f64, bz: f64, cx: f64, cy: f64, cz: f64, yes: *mut u8) -> u32;
+        pub fn arcstring_point(x: f64, y: f64, z: f64, out: *mut f64) -> u32;
+        pub fn arcstring_build(p: *const f64, n: usize, out: *mut f64, room: usize, count: *mut usize, closed: *mut u8) -> u32;
+        pub fn arcstring_build_flagged(p: *const f64, n: usize, flag: u8, out: *mut f64, room: usize, count: *mut usize) -> u32;
+        pub fn arcstring_walk_back(v: *const f64, n: usize, out: *mut f64, room: usize, count: *mut usize) -> u32;
+        pub fn arcstring_restart(v: *const f64, n: usize, closed: u8, at: usize, out: *mut f64, room: usize, count: *mut usize) -> u32;
+        pub fn arcstring_run(v: *const f64, n: usize, from: usize, to: usize, start: *mut usize, len: *mut usize);
+        pub fn arcstring_pair(a: *const f64, b: *const f64, class: *mut u8, kept: *mut u8, point: *mut f64) -> u32;
+        pub fn arcstring_leg_crossings(leg: *const f64, v: *const f64, n: usize, closed: u8, points: *mut f64, room: usize, marks: *mut u8, marks_room: usize, kept: *mut usize, counts: *mut u64) -> u32;
+        pub fn arcstring_crossings(a: *const f64, an: usize, ac: u8, b: *const f64, bn: usize, bc: u8, points: *mut f64, room: usize, marks: *mut u8, marks_room: usize, kept: *mut usize, counts: *mut u64) -> u32;
+        pub fn arcstring_count(a: *const f64, an: usize, ac: u8, b: *const f64, bn: usize, bc: u8, counts: *mut u64) -> u32;
+        pub fn arcstring_crossings_with_self(v: *const f64, n: usize, points: *mut f64, room: usize, marks: *mut u8, marks_room: usize, kept: *mut usize, counts: *mut u64) -> u32;
+        pub fn arcstring_crosses_self(v: *const f64, n: usize, closed: u8, yes: *mut u8) -> u32;
+        pub fn arcstring_same_side(ax: f64, ay: f64, az: f64, bx: f64, by: f64, bz: f64, v: *const f64, n: usize, closed: u8, yes: *mut u8) -> u32;
+    }
+}
+
+/// A call's number and every place that it was lent, after it. Floats by their bits.
+#[derive(Clone, Debug, PartialEq, Eq)]
+pub struct Left {
+    pub number: u32,
+    pub floats: Vec<u64>,
+    pub bytes: Vec<u8>,
+    pub numbers: Vec<u64>,
+}
+
+pub fn bits(floats: &[f64]) -> Vec<u64> {
+    floats.iter().map(|x| x.to_bits()).collect()
+}
+
+pub fn blank(room: usize) -> Vec<f64> {
+    vec![BLANK; room]
+}
+
+fn left(number: u32, floats: &[f64], bytes: &[u8], numbers: &[u64]) -> Left {
+    Left { number, floats: bits(floats), bytes: bytes.to_vec(), numbers: numbers.to_vec() }
+}
+
+pub fn xyz_eq(a: Xyz, b: Xyz) -> Left {
+    let mut yes = BLANK_BYTE;
+    let n = unsafe { c::arcstring_xyz_eq(a[0], a[1], a[2], b[0], b[1], b[2], &mut yes) };
+    left(n, &[], &[yes], &[])
+}
+
+pub fn xyzs_coplanar(a: Xyz, b: Xyz, d: Xyz) -> Left {
+    let mut yes = BLANK_BYTE;
+    let n = unsafe { c::arcstring_xyzs_coplanar(a[0], a[1], a[2], b[0], b[1], b[2], d[0], d[1], d[2], &mut yes) };
+    left(n, &[], &[yes], &[])
+}
+
+pub fn point(p: Xyz) -> Left {
+    let mut out = [BLANK; 3];
+    let n = unsafe { c::arcstring_point(p[0], p[1], p[2], out.as_mut_ptr()) };
+    left(n, &out, &[], &[])
+}
+
+pub fn build(v: &[f64], room: usize) -> Left {
+    let (mut out, mut count, mut closed) = (blank(room), BLANK_COUNT as usize, BLANK_BYTE);
+    let n = unsafe { c::arcstring_build(v.as_ptr(), v.len(), out.as_mut_ptr(), room, &mut count, &mut closed) };
+    left(n, &out, &[closed], &[count as u64])
+}
+
+pub fn build_flagged(v: &[f64], flag: u8, room: usize) -> Left {
+    let (mut out, mut count) = (blank(room), BLANK_COUNT as usize);
+    let n = unsafe { c::arcstring_build_flagged(v.as_ptr(), v.len(), flag, out.as_mut_ptr(), room, &mut count) };
+    left(n, &out, &[], &[count as u64])
+}
+
+pub fn walk_back(v: &[f64], room: usize) -> Left {
+    let (mut out, mut count) = (blank(room), BLANK_COUNT as usize);
+    let n = unsafe { c::arcstring_walk_back(v.as_ptr(), v.len(), out.as_mut_ptr(), room, &mut count) };
+    left(n, &out, &[], &[count as u64])
+}
+
+pub fn restart(v: &[f64], closed: u8, at: usize, room: usize) -> Left {
+    let (mut out, mut count) = (blank(room), BLANK_COUNT as usize);
+    let n = unsafe { c::arcstring_restart(v.as_ptr(), v.len(), closed, at, out.as_mut_ptr(), room, &mut count) };
+    left(n, &out, &[], &[count as u64])
+}
+
+pub fn run(v: &[f64], from: usize, to: usize) -> Left {
+    let (mut start, mut len) = (BLANK_COUNT as usize, BLANK_COUNT as usize);
+    unsafe { c::arcstring_run(v.as_ptr(), v.len(), from, to, &mut start, &mut len) };
+    left(0, &[], &[], &[start as u64, len as u64])
+}
+
+pub fn pair(a: &[f64; 6], b: &[f64; 6]) -> Left {
+    let (mut class, mut kept, mut point) = (BLANK_BYTE, BLANK_BYTE, [BLANK; 3]);
+    let n = unsafe { c::arcstring_pair(a.as_ptr(), b.as_ptr(), &mut class, &mut kept, point.as_mut_ptr()) };
+    left(n, &point, &[class, kept], &[])
+}
+
+/// The buffers of a listing: kept points, marks, how many, the counts.
+struct Listing {
+    points: Vec<f64>,
+    marks: Vec<u8>,
+    kept: usize,
+    counts: [u64; 4],
+}
+
+impl Listing {
+    fn new(room: usize, marks_room: usize) -> Self {
+        Self { points: blank(room), marks: vec![BLANK_BYTE; marks_room], kept: BLANK_COUNT as usize, counts: [BLANK_COUNT; 4] }
+    }
+
+    fn left(&self, number: u32) -> Left {
+        let mut numbers = vec![self.kept as u64];
+        numbers.extend(self.counts);
+        left(number, &self.points, &self.marks, &numbers)
+    }
+}
+
+pub fn leg_crossings(leg: &[f64; 6], v: &[f64], closed: u8, room: usize, marks_room: usize) -> Left {
+    let mut l = Listing::new(room, marks_room);
+    let n = unsafe {
+        c::arcstring_leg_crossings(leg.as_ptr(), v.as_ptr(), v.len(), closed, l.points.as_mut_ptr(), room, l.marks.as_mut_ptr(), marks_room, &mut l.kept, l.counts.as_mut_ptr())
+    };
+    l.left(n)
+}
+
+pub fn crossings(a: &[f64], ac: u8, b: &[f64], bc: u8, room: usize, marks_room: usize) -> Left {
+    let mut l = Listing::new(room, marks_room);
+    let n = unsafe {
+        c::arcstring_crossings(a.as_ptr(), a.len(), ac, b.as_ptr(), b.len(), bc, l.points.as_mut_ptr(), room, l.marks.as_mut_ptr(), marks_room, &mut l.kept, l.counts.as_mut_ptr())
+    };
+    l.left(n)
+}
+
+pub fn count(a: &[f64], ac: u8, b: &[f64], bc: u8) -> Left {
+    let mut counts = [BLANK_COUNT; 4];
+    let n = unsafe { c::arcstring_count(a.as_ptr(), a.len(), ac, b.as_ptr(), b.len(), bc, counts.as_mut_ptr()) };
+    left(n, &[], &[], &counts)
+}
+
+pub fn crossings_with_self(v: &[f64], room: usize, marks_room: usize) -> Left {
+    let mut l = Listing::new(room, marks_room);
+    let n = unsafe {
+        c::arcstring_crossings_with_self(v.as_ptr(), v.len(), l.points.as_mut_ptr(), room, l.marks.as_mut_ptr(), marks_room, &mut l.kept, l.counts.as_mut_ptr())
+    };
+    l.left(n)
+}
+
+pub fn crosses_self(v: &[f64], closed: u8) -> Left {
+    let mut yes = BLANK_BYTE;
+    let n = unsafe { c::arcstring_crosses_self(v.as_ptr(), v.len(), closed, &mut yes) };
+    left(n, &[], &[yes], &[])
+}
+
+pub fn same_side(a: Xyz, b: Xyz, v: &[f64], closed: u8) -> Left {
+    let mut yes = BLANK_BYTE;
+    let n = unsafe { c::arcstring_same_side(a[0], a[1], a[2], b[0], b[1], b[2], v.as_ptr(), v.len(), closed, &mut yes) };
+    left(n, &[], &[yes], &[])
+}

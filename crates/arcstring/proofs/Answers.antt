@@ -1,0 +1,81 @@
+-- How a check's number decides an answer: a refusal's number is the answer whatever would follow, and 0 lets what follows be the answer. Assumes nothing.
+use mathlib.Core.Path.{_≡_, refl, sym, ap, _∙_}
+use Prim.Native.Nat.{ℕ, zero, suc}
+use native.Mathlib.Omega.{arith}
+use Rattle.arcstring.specs.declared.check.Refusal.{Refusal}
+use Rattle.arcstring.specs.declared.check.Refusal.the-variants.{NotTriples, TooFewPoints, TooManyPoints, OutOfRange, NoRoom}
+use Rattle.arcstring.specs.declared.check.Checked.{Checked}
+use Rattle.arcstring.specs.declared.check.Checked.the-variants.{Accepted, Refused}
+use Rattle.arcstring.specs.Check.{checkNumber}
+use Rattle.arcstring.specs.Answer.{Answer, refused, answered, unlessRefused, firstOf, refusalNumber}
+
+at-refusal : {A : Type 0} (e : Refusal) (x : Answer A) → refused (refusalNumber e) ≡ unlessRefused (refusalNumber e) x
+at-refusal NotTriples x = refl
+at-refusal TooFewPoints x = refl
+at-refusal TooManyPoints x = refl
+at-refusal OutOfRange x = refl
+at-refusal NoRoom x = refl
+
+pub refuse : {A : Type 0} (e : Refusal) (n : ℕ) (x : Answer A) → n ≡ refusalNumber e → refused (refusalNumber e) ≡ unlessRefused n x
+refuse e n x h = at-refusal e x ∙ sym (ap (λ (m : ℕ). unlessRefused m x) h)
+
+pub pass : {A : Type 0} (n : ℕ) (x : Answer A) → n ≡ 0 → unlessRefused n x ≡ x
+pass n x h = ap (λ (m : ℕ). unlessRefused m x) h
+
+-- two checks, one after the other, are the first of the two that refuses
+pub in-turn : {A : Type 0} (m n : ℕ) (x : Answer A) → unlessRefused (firstOf m n) x ≡ unlessRefused m (unlessRefused n x)
+in-turn zero n x = refl
+in-turn (suc m) n x = refl
+
+pub refuse-first : {A : Type 0} (e : Refusal) (m n : ℕ) (x : Answer A) → firstOf m n ≡ refusalNumber e → refused (refusalNumber e) ≡ unlessRefused m (unlessRefused n x)
+refuse-first e m n x h = refuse e (firstOf m n) x h ∙ in-turn m n x
+
+pub pass-first : {A : Type 0} (m n : ℕ) (x : Answer A) → firstOf m n ≡ 0 → unlessRefused m (unlessRefused n x) ≡ x
+pass-first m n x h = sym (in-turn m n x) ∙ pass (firstOf m n) x h
+
+-- both of two checks pass where the first that refuses is none
+pub first-passes : (m n : ℕ) → firstOf m n ≡ 0 → m ≡ 0
+first-passes zero n h = refl
+first-passes (suc m) n h = h
+
+pub second-passes : (m n : ℕ) → firstOf m n ≡ 0 → n ≡ 0
+second-passes zero n h = h
+second-passes (suc m) n h = absurd (let z : suc m ≡ 0 = h in omega arith)
+
+refusal-first : (e : Refusal) (n : ℕ) → refusalNumber e ≡ firstOf (refusalNumber e) n
+refusal-first NotTriples n = refl
+refusal-first TooFewPoints n = refl
+refusal-first TooManyPoints n = refl
+refusal-first OutOfRange n = refl
+refusal-first NoRoom n = refl
+
+-- ---- the same, for code that took a check's answer apart
+
+module _ {A : Type 0} (k : Checked) where
+  pub answer-refused : (e : Refusal) (n : ℕ) (x : Answer A) → k ≡ Refused e → checkNumber k ≡ n → refused (refusalNumber e) ≡ unlessRefused n x
+  answer-refused e n x h g = refuse e n x (sym g ∙ ap checkNumber h)
+
+  pub answer-accepted : (n : ℕ) (x : Answer A) → k ≡ Accepted → checkNumber k ≡ n → x ≡ unlessRefused n x
+  answer-accepted n x h g = sym (pass n x (sym g ∙ ap checkNumber h))
+
+  -- two checks in turn
+  pub answer-refused-first : (e : Refusal) (m n : ℕ) (x : Answer A) → k ≡ Refused e → checkNumber k ≡ firstOf m n → refused (refusalNumber e) ≡ unlessRefused m (unlessRefused n x)
+  answer-refused-first e m n x h g = refuse-first e m n x (sym g ∙ ap checkNumber h)
+
+  pub answer-accepted-first : (m n : ℕ) (x : Answer A) → k ≡ Accepted → checkNumber k ≡ firstOf m n → x ≡ unlessRefused m (unlessRefused n x)
+  answer-accepted-first m n x h g = sym (pass-first m n x (sym g ∙ ap checkNumber h))
+
+pub first-refused : (k : Checked) (e : Refusal) (n : ℕ) → k ≡ Refused e → refusalNumber e ≡ firstOf (checkNumber k) n
+first-refused k e n h = refusal-first e n ∙ sym (ap (λ (x : Checked). firstOf (checkNumber x) n) h)
+
+pub both-numbers : {k l m n : ℕ} → k ≡ m → l ≡ n → firstOf k l ≡ firstOf m n
+both-numbers p q = λ i. firstOf (p i) (q i)
+
+-- ---- three checks in turn
+
+module _ {A : Type 0} (k : Checked) where
+  pub answer-refused-in-three : (e : Refusal) (l m n : ℕ) (x : Answer A) → k ≡ Refused e → checkNumber k ≡ firstOf l (firstOf m n) → refused (refusalNumber e) ≡ unlessRefused l (unlessRefused m (unlessRefused n x))
+  answer-refused-in-three e l m n x h g = answer-refused-first k e l (firstOf m n) x h g ∙ ap (unlessRefused l) (in-turn m n x)
+
+  pub answer-accepted-in-three : (l m n : ℕ) (x : Answer A) → k ≡ Accepted → checkNumber k ≡ firstOf l (firstOf m n) → x ≡ unlessRefused l (unlessRefused m (unlessRefused n x))
+  answer-accepted-in-three l m n x h g = answer-accepted-first k l (firstOf m n) x h g ∙ ap (unlessRefused l) (in-turn m n x)

@@ -1,0 +1,143 @@
+-- The checks at each outcome of their tests, and what an accepted list is. Assumes nothing.
+use mathlib.Core.Path.{_≡_, refl, sym, ap, _∙_}
+use mathlib.Core.Bool.{Bool, true, false, not, _&&_}
+use mathlib.Core.List.{List, [], _∷_}
+use Prim.Native.Nat.{ℕ, zero, suc, _+_, _*_, _/_, _%_, _≤_, _<_}
+use native.Mathlib.Omega.{arith}
+use native.Mathlib.Numerals.{add-one}
+use lib.Dec.{ltb, eqb}
+use lib.ListN.{length, getD, drop, drop-of-length-le}
+use lib.Seq.{drop-cons}
+use lib.Ieee.{Float, nan}
+use Rattle.sphericalpoint.specs.declared.SphericalPoint.{SphericalPoint}
+use borrow.Author.Tests.{eqb-true, ltb-false, ltb-true, eq-eqb, ne-eqb, lt-ltb, le-ltb, eqb-false}
+use Rattle.arcstring.specs.declared.check.Refusal.{Refusal}
+use Rattle.arcstring.specs.declared.check.Checked.{Checked}
+use Rattle.arcstring.specs.declared.check.Checked.the-variants.{Refused}
+use Rattle.arcstring.specs.Answer.{numberIf, firstOf, refusalNumber}
+use Rattle.arcstring.specs.Check.{checkNumber, inRange, allInRange, listCheck, storedCheck, buildCheck, pointCheck}
+use Rattle.arcstring.proofs.Answers.{first-passes, second-passes, first-refused}
+
+-- ---- the walk over a list's coordinates
+
+step : (v : List Float) (i : ℕ) → i < length v → allInRange (drop i v) ≡ inRange (getD v i nan) && allInRange (drop (i + 1) v)
+unfolding allInRange
+step v i h = rw (add-one, drop-cons v i nan)
+
+pub range-stop : (v : List Float) (i : ℕ) → i < length v → inRange (getD v i nan) ≡ false → allInRange (drop i v) ≡ false
+range-stop v i h e = step v i h ∙ ap (λ (b : Bool). b && allInRange (drop (i + 1) v)) e
+
+pub range-go : (v : List Float) (i : ℕ) → i < length v → inRange (getD v i nan) ≡ true → allInRange (drop (i + 1) v) ≡ allInRange (drop i v)
+range-go v i h e = sym (step v i h ∙ ap (λ (b : Bool). b && allInRange (drop (i + 1) v)) e)
+
+pub range-end : (v : List Float) (i : ℕ) → length v ≤ i → allInRange (drop i v) ≡ true
+unfolding allInRange
+range-end v i h = rw (drop-of-length-le v h)
+
+-- ---- the checks of a list
+
+module _ (few : ℕ) (v : List Float) where
+  by-tests : (a b c : Bool) → eqb (length v % 3) 0 ≡ a → ltb 1024 (length v / 3) ≡ b → allInRange v ≡ c
+      → firstOf (numberIf (not a) 1) (firstOf few (firstOf (numberIf b 3) (numberIf (not c) 4))) ≡ listCheck few v
+  unfolding listCheck
+  by-tests a b c p q r = sym (λ i. firstOf (numberIf (not (p i)) 1) (firstOf few (firstOf (numberIf (q i) 3) (numberIf (not (r i)) 4))))
+
+  pub no-triples : (length v % 3 ≡ 0 → ⊥) → 1 ≡ listCheck few v
+  no-triples h = by-tests false (ltb 1024 (length v / 3)) (allInRange v) (ne-eqb _ _ h) refl refl
+
+  pub too-many : length v % 3 ≡ 0 → few ≡ 0 → 1024 < length v / 3 → 3 ≡ listCheck few v
+  too-many h e l =
+      sym (ap (λ (m : ℕ). firstOf m (firstOf 3 (numberIf (not (allInRange v)) 4))) e)
+      ∙ by-tests true true (allInRange v) (eq-eqb _ _ h) (lt-ltb _ _ l) refl
+
+  pub by-range : length v % 3 ≡ 0 → few ≡ 0 → length v / 3 ≤ 1024 → (c : Bool) → allInRange v ≡ c → numberIf (not c) 4 ≡ listCheck few v
+  by-range h e l c r =
+      sym (ap (λ (m : ℕ). firstOf m (numberIf (not c) 4)) e)
+      ∙ by-tests true false c (eq-eqb _ _ h) (le-ltb _ _ l) r
+
+pub few-refused : (k : Checked) (e : Refusal) (v : List Float) → length v % 3 ≡ 0 → k ≡ Refused e → refusalNumber e ≡ listCheck (checkNumber k) v
+few-refused k e v h g = first-refused k e _ g ∙ by-tests (checkNumber k) v true (ltb 1024 (length v / 3)) (allInRange v) (eq-eqb _ _ h) refl refl
+
+module _ (v : List Float) where
+  pub stored-empty : length v ≡ 0 → listCheck 1 v ≡ storedCheck v
+  unfolding storedCheck
+  stored-empty h = sym (ap (λ (b : Bool). listCheck (numberIf b 1) v) (eq-eqb _ _ h))
+
+  pub stored-not-empty : (length v ≡ 0 → ⊥) → listCheck 0 v ≡ storedCheck v
+  unfolding storedCheck
+  stored-not-empty h = sym (ap (λ (b : Bool). listCheck (numberIf b 1) v) (ne-eqb _ _ h))
+
+  pub build-too-few : length v / 3 < 2 → listCheck 2 v ≡ buildCheck v
+  unfolding buildCheck
+  build-too-few h = sym (ap (λ (b : Bool). listCheck (numberIf b 2) v) (lt-ltb _ _ h))
+
+  pub build-enough : 2 ≤ length v / 3 → listCheck 0 v ≡ buildCheck v
+  unfolding buildCheck
+  build-enough h = sym (ap (λ (b : Bool). listCheck (numberIf b 2) v) (le-ltb _ _ h))
+
+-- ---- what an accepted list is
+
+if-none : (b : Bool) (n : ℕ) → numberIf b (suc n) ≡ 0 → b ≡ false
+if-none true n h = absurd (let z : suc n ≡ 0 = h in omega arith)
+if-none false n h = refl
+
+pub if-none-not : (b : Bool) (n : ℕ) → numberIf (not b) (suc n) ≡ 0 → b ≡ true
+if-none-not true n h = refl
+if-none-not false n h = absurd (let z : suc n ≡ 0 = h in omega arith)
+
+pub record WholeList (v : List Float) : Type 0 where
+  pub triples : length v ≡ 3 * (length v / 3)
+  pub at-most : length v / 3 ≤ 1024
+  pub in-range : allInRange v ≡ true
+
+module _ (few : ℕ) (v : List Float) where
+  abbrev not-triples : ℕ
+  not-triples = numberIf (not (eqb (length v % 3) 0)) 1
+
+  abbrev over : ℕ
+  over = numberIf (ltb 1024 (length v / 3)) 3
+
+  abbrev outside : ℕ
+  outside = numberIf (not (allInRange v)) 4
+
+  few-passes : listCheck few v ≡ 0 → few ≡ 0
+  unfolding listCheck
+  few-passes h = first-passes few (firstOf over outside) (second-passes not-triples (firstOf few (firstOf over outside)) h)
+
+  whole : listCheck few v ≡ 0 → WholeList v
+  unfolding listCheck
+  whole h =
+      let rest = second-passes few (firstOf over outside) (second-passes not-triples (firstOf few (firstOf over outside)) h) in
+      let t : length v % 3 ≡ 0 = eqb-true (length v % 3) 0 (if-none-not (eqb (length v % 3) 0) 0 (first-passes not-triples (firstOf few (firstOf over outside)) h)) in
+      record {
+        triples = omega arith;
+        at-most = ltb-false 1024 (length v / 3) (if-none (ltb 1024 (length v / 3)) 2 (first-passes over outside rest));
+        in-range = if-none-not (allInRange v) 3 (second-passes over outside rest);
+      }
+
+-- an accepted stored list: whole triples, at least one point, at most 1,024, every coordinate in range
+pub stored-whole : (v : List Float) → storedCheck v ≡ 0 → WholeList v
+unfolding storedCheck
+stored-whole v h = whole (numberIf (eqb (length v) 0) 1) v h
+
+pub stored-some : (v : List Float) → storedCheck v ≡ 0 → 1 ≤ length v / 3
+unfolding storedCheck
+stored-some v h =
+    let e : length v ≡ 0 → ⊥ = eqb-false (length v) 0 (if-none (eqb (length v) 0) 0 (few-passes (numberIf (eqb (length v) 0) 1) v h)) in
+    let w = stored-whole v h .triples in
+    omega arith
+
+-- an accepted list to build from has two points at least
+pub build-whole : (v : List Float) → buildCheck v ≡ 0 → WholeList v
+unfolding buildCheck
+build-whole v h = whole (numberIf (ltb (length v / 3) 2) 2) v h
+
+pub build-two : (v : List Float) → buildCheck v ≡ 0 → 2 ≤ length v / 3
+unfolding buildCheck
+build-two v h = ltb-false (length v / 3) 2 (if-none (ltb (length v / 3) 2) 1 (few-passes (numberIf (ltb (length v / 3) 2) 2) v h))
+
+-- ---- a single point
+
+pub point-by-range : (p : SphericalPoint) (c : Bool) → inRange (p .x) && inRange (p .y) && inRange (p .z) ≡ c → numberIf (not c) 4 ≡ pointCheck p
+unfolding pointCheck
+point-by-range p c h = sym (ap (λ (b : Bool). numberIf (not b) 4) h)

@@ -1,0 +1,48 @@
+-- `build_flagged` answers as `build` does, with the given flag for its own. Assumes nothing.
+use mathlib.Core.Path.{sym, ap, _∙_}
+use Rattle.arcstring.specs.Build.{builtAnswer}
+use Rattle.arcstring.proofs.Builds.{flagged-refused, flagged-answered, flagged-leaves}
+use borrow.Author.Needs.{needs}
+use Rattle.arcstring.proofs.build.build_flagged.Statement.{statement}
+use Rattle.arcstring.proofs.build.build_flagged.Tie as tie
+
+build-requires : tie.Need-build-requires
+build-requires c κs = search needs
+
+enum-known-built : tie.Need-enum-known-built
+enum-known-built c = search needs
+
+enum-known-built-2 : tie.Need-enum-known-built-2
+enum-known-built-2 c = search needs
+
+same-length : tie.Need-same-length
+same-length c = search needs
+
+returns : tie.Need-returns
+returns c = let b = c .before .before .before .before .before in
+    let s = b .before .before .before .before in (
+      flagged-refused (s .args .v .now) (s .args .out .now) (s .args .closed) _ (sym (ap builtAnswer (c .before .built .given .1)) ∙ b .build .ensures .0),
+      flagged-leaves (s .args .v .now) (s .args .out .now) (s .args .closed) _ (b .build .ensures .1),
+    )
+
+same-length-2 : tie.Need-same-length-2
+same-length-2 c = search needs
+
+returns-2 : tie.Need-returns-2
+returns-2 c = let b = c .before .before .before .before .before in
+    let s = b .before .before .before .before in (
+      flagged-answered (s .args .v .now) (s .args .out .now) (s .args .closed) _ _ (sym (ap builtAnswer (c .before .built2 .given .1)) ∙ b .build .ensures .0),
+      flagged-leaves (s .args .v .now) (s .args .out .now) (s .args .closed) _ (b .build .ensures .1),
+    )
+
+pub build-flagged-spec : {M : Type 1} → statement M
+build-flagged-spec =
+    tie.close
+    (tie.spec
+    build-requires
+    enum-known-built
+    enum-known-built-2
+    same-length
+    returns
+    same-length-2
+    returns-2)

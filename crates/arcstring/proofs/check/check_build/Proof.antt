@@ -1,0 +1,21 @@
+-- `check::check_build` meets its contract, whichever way its test goes. Assumes nothing.
+use mathlib.Core.Path.{_∙_}
+use Rattle.arcstring.proofs.Checks.{build-too-few, build-enough}
+use borrow.Author.Needs.{needs}
+use Rattle.arcstring.proofs.check.check_build.Statement.{statement}
+use Rattle.arcstring.proofs.check.check_build.Tie as tie
+
+check-list-requires : tie.Need-check-list-requires
+check-list-requires c κs = search needs
+
+check-list-requires-2 : tie.Need-check-list-requires-2
+check-list-requires-2 c κs = search needs
+
+returns : tie.Need-returns
+returns c = c .check-list .ensures ∙ build-too-few _ (c .before .if1 .taken)
+
+returns-2 : tie.Need-returns-2
+returns-2 c = c .check-list2 .ensures ∙ build-enough _ (c .before .if1 .left)
+
+pub check-build-spec : {M : Type 1} → statement M
+check-build-spec = tie.close (tie.spec check-list-requires check-list-requires-2 returns returns-2)

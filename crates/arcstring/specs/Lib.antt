@@ -1,0 +1,12 @@
+pub mod Answer
+pub mod Points
+pub mod Splice
+pub mod Check
+pub mod Point
+pub mod Build
+pub mod Walk
+pub mod Crossing
+pub mod Plane
+pub mod Listing
+pub mod Tally
+pub mod Changes

@@ -1,0 +1,118 @@
+// What is refused: the checks of document 01's table, in the order of its numbers.
+ghost use mathlib.Core.Path.{_≡_};
+ghost use Rattle.arcstring.specs.Answer.{firstOf};
+ghost use Rattle.arcstring.specs.Check.{checkNumber, inRange, allInRange, listCheck, storedCheck, buildCheck, pointCheck, roomCheck};
+use sphericalpoint::SphericalPoint;
+
+// Why a call says no. `refusalNumber` of specs/Answer.antt gives document 01's number of each.
+pub enum Refusal {
+    NotTriples,
+    TooFewPoints,
+    TooManyPoints,
+    OutOfRange,
+    NoRoom,
+}
+
+// What a check answers.
+pub enum Checked {
+    Accepted,
+    Refused(Refusal),
+}
+
+// What a yes-or-no call answers.
+pub enum Decided {
+    Verdict(bool),
+    Refused(Refusal),
+}
+
+fn in_range(x: f64) -> bool
+    ensures { λ r. ⌜ r ≡ inRange x ⌝ }
+{
+    (-1.0 <= x) & (x <= 1.0)
+}
+
+fn all_in_range(list: &[f64]) -> bool
+    ensures { λ r. ⌜ r ≡ allInRange (now (list .entry)) ⌝ }
+{
+    let mut i = 0;
+    while i < list.len() {
+        if !in_range(list[i]) {
+            return false;
+        }
+        i += 1;
+    }
+    true
+}
+
+// The checks of any list in number order; `few` is what is asked of how few points there are.
+pub(crate) fn check_list(list: &[f64], few: Checked) -> Checked
+    ensures { λ r. ⌜ checkNumber r ≡ listCheck (checkNumber few) (now (list .entry)) ⌝ }
+{
+    if list.len() % 3 != 0 {
+        return Checked::Refused(Refusal::NotTriples);
+    }
+    if let Checked::Refused(e) = few {
+        return Checked::Refused(e);
+    }
+    if list.len() / 3 > 1024 {
+        return Checked::Refused(Refusal::TooManyPoints);
+    }
+    if all_in_range(list) {
+        Checked::Accepted
+    } else {
+        Checked::Refused(Refusal::OutOfRange)
+    }
+}
+
+// The vertices or the near list of a stored string.
+pub(crate) fn check_stored(list: &[f64]) -> Checked
+    ensures { λ r. ⌜ checkNumber r ≡ storedCheck (now (list .entry)) ⌝ }
+{
+    if list.len() == 0 {
+        check_list(list, Checked::Refused(Refusal::NotTriples))
+    } else {
+        check_list(list, Checked::Accepted)
+    }
+}
+
+// A list to build from.
+pub(crate) fn check_build(list: &[f64]) -> Checked
+    ensures { λ r. ⌜ checkNumber r ≡ buildCheck (now (list .entry)) ⌝ }
+{
+    if list.len() / 3 < 2 {
+        check_list(list, Checked::Refused(Refusal::TooFewPoints))
+    } else {
+        check_list(list, Checked::Accepted)
+    }
+}
+
+pub(crate) fn check_point(p: SphericalPoint) -> Checked
+    ensures { λ r. ⌜ checkNumber r ≡ pointCheck p ⌝ }
+{
+    if in_range(p.x) & in_range(p.y) & in_range(p.z) {
+        Checked::Accepted
+    } else {
+        Checked::Refused(Refusal::OutOfRange)
+    }
+}
+
+// Whether an answer of `needed` elements fits a buffer of `lent`.
+pub(crate) fn check_room(needed: usize, lent: usize) -> Checked
+    ensures { λ r. ⌜ checkNumber r ≡ roomCheck needed lent ⌝ }
+{
+    if lent < needed {
+        Checked::Refused(Refusal::NoRoom)
+    } else {
+        Checked::Accepted
+    }
+}
+
+// The first of two checks that refuses.
+pub(crate) fn first_of(first: Checked, second: Checked) -> Checked
+    ensures { λ r. ⌜ checkNumber r ≡ firstOf (checkNumber first) (checkNumber second) ⌝ }
+{
+    match first {
+        Checked::Accepted => second,
+        Checked::Refused(e) => Checked::Refused(e),
+    }
+}

@@ -1,0 +1,20 @@
+// The string layer: great-circle strings, built, walked and crossed as document 01 has it, above the promises of
+// the vector layer. A list of points is flat, three floats a point. Every `pub` function takes any lists, flags and
+// positions, and says by its contract what it answers and what it leaves in each buffer that it was lent.
+//
+//     check     what is refused, by document 01's numbers
+//     point     the calls on single points
+//     build     a string from a list of points
+//     walk      backwards, restarted, and the run between two positions
+//     crossing  the class of a pair of legs
+//     listing   the crossings and counts of two strings, of a leg and a string, of a string with itself
+//
+// vertex and tally hold what these share.
+pub mod build;
+pub mod check;
+pub mod crossing;
+pub mod listing;
+pub mod point;
+pub(crate) mod tally;
+pub(crate) mod vertex;
+pub mod walk;

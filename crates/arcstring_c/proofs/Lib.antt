@@ -1,0 +1,3 @@
+-- What the proofs of the calls for C share.
+mod Places
+mod Runs

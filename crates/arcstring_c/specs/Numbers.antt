@@ -1,0 +1,100 @@
+-- The answers of the string layer as C programs get them: a number that is 0 or the refusal's, and results in the places that were lent for them. Definitions only.
+use mathlib.Core.Bool.{Bool, true, false, not}
+use mathlib.Core.List.{List, [], _∷_}
+use Prim.Native.Nat.{ℕ, _*_}
+use lib.Dec.{eqb}
+use lib.ListN.{length, getD}
+use lib.Ieee.{Float, nan}
+use Rattle.sphericalpoint.specs.declared.SphericalPoint.{SphericalPoint}
+use Rattle.arcstring.specs.declared.crossing.Pair.{Pair}
+use Rattle.arcstring.specs.declared.crossing.Pair.the-variants.{Clean, End, Grazing, Apart}
+use Rattle.arcstring.specs.declared.crossing.Outcome.the-variants.{Kept, Dropped}
+use Rattle.arcstring.specs.declared.listing.Counts.{Counts}
+use Rattle.arcstring.specs.Answer.{Answer, refused, answered, pick}
+use Rattle.arcstring.specs.Points.{ArcString, point}
+use Rattle.arcstring.specs.Crossing.{Leg, leg}
+use Rattle.arcstring.specs.Walk.{runOf}
+use Rattle.arcstring.specs.Listing.{Listing}
+
+-- 0, or the number of the refusal
+abbrev pub answerNumber : {A : Type 0} → Answer A → ℕ
+answerNumber (refused n) = n
+answerNumber (answered x) = 0
+
+-- what a place lent for a part of the result holds after the call: a refusal leaves it as it came
+abbrev pub leftIn : {A B : Type 0} → (A → B) → Answer A → B → B
+leftIn part (refused n) old = old
+leftIn part (answered x) old = part x
+
+-- a flag is 0 for open and anything else for closed
+abbrev pub flag : ℕ → Bool
+flag n = not (eqb n 0)
+
+-- a verdict, or whether a string is closed: 0 or 1
+abbrev pub flagByte : Bool → ℕ
+flagByte true = 1
+flagByte false = 0
+
+abbrev pub threeFloats : SphericalPoint → List Float
+threeFloats p = p .x ∷ p .y ∷ p .z ∷ []
+
+-- a leg as six floats: its start, then its end
+abbrev pub legOfSix : List Float → Leg
+legOfSix l = leg (point (getD l 0 nan) (getD l 1 nan) (getD l 2 nan)) (point (getD l 3 nan) (getD l 4 nan) (getD l 5 nan))
+
+-- ---- a pair: 1 clean, 2 end, 3 grazing, 4 apart
+
+abbrev pub classNumber : Pair → ℕ
+classNumber (Clean p) = 1
+classNumber (End p) = 2
+classNumber (Grazing o) = 3
+classNumber Apart = 4
+
+-- 1 where the listings keep the pair's point
+abbrev pub keptByte : Pair → ℕ
+keptByte (Clean p) = 1
+keptByte (End p) = 0
+keptByte (Grazing (Kept p)) = 1
+keptByte (Grazing Dropped) = 0
+keptByte Apart = 0
+
+-- the point of a clean, an end or a kept grazing pair; the place keeps what it held for the others
+abbrev pub pairPoint : List Float → Pair → List Float
+pairPoint old (Clean p) = threeFloats p
+pairPoint old (End p) = threeFloats p
+pairPoint old (Grazing (Kept p)) = threeFloats p
+pairPoint old (Grazing Dropped) = old
+pairPoint old Apart = old
+
+-- ---- strings and listings
+
+abbrev pub vertexCount : ArcString → ℕ
+vertexCount s = length (s .vertices)
+
+abbrev pub closedByte : ArcString → ℕ
+closedByte s = flagByte (s .closed)
+
+-- clean, end, grazing, apart
+abbrev pub fourCounts : Counts → List ℕ
+fourCounts c = c .clean ∷ c .end ∷ c .grazing ∷ c .apart ∷ []
+
+abbrev pub keptCount : Listing → ℕ
+keptCount l = length (l .marks)
+
+abbrev pub listingCounts : Listing → List ℕ
+listingCounts l = fourCounts (l .counts)
+
+-- the same of what the listings answer
+abbrev pub listedKept : ℕ × Counts → ℕ
+listedKept r = r .0
+
+abbrev pub listedCounts : ℕ × Counts → List ℕ
+listedCounts r = fourCounts (r .1)
+
+-- ---- a run, as the place in the caller's list where it starts and its length, in floats; an empty run starts at 0
+
+abbrev pub runLength : List Float → ℕ → ℕ → ℕ
+runLength v a b = length (runOf v a b)
+
+abbrev pub runStart : List Float → ℕ → ℕ → ℕ
+runStart v a b = pick (eqb (runLength v a b) 0) 0 (3 * a)

@@ -1,0 +1,98 @@
+/* Great-circle strings: building, walking, crossing and counting them.
+ *
+ * A list of points is flat: three doubles a point (x, y, z), each from -1 to 1; its length is in doubles. A string is
+ * its list of vertices and a flag: 0 is open, anything else closed. A leg by itself is six doubles: start, then end.
+ *
+ * Every call but arcstring_run returns 0, or the number of a refusal, and then changes nothing that it was lent:
+ *
+ *     1  a list is not whole triples, or a string has no vertex
+ *     2  fewer than two points to build from
+ *     3  a list has more than 1,024 points
+ *     4  a coordinate is NaN, infinite, or outside -1 to 1
+ *     7  the answer is longer than a buffer lent for it
+ *
+ * The checks run in the order of the numbers within a list, and the first list comes before the second; 7 comes last.
+ * Past an answer a buffer keeps what it held. What is lent for results, buffers and single places alike, may not overlap
+ * anything else that is handed in.
+ */
+#ifndef ARCSTRING_H
+#define ARCSTRING_H
+
+#include <stddef.h>
+#include <stdint.h>
+
+#ifdef __cplusplus
+extern "C" {
+#endif
+
+/* Whether the sum of absolute differences of two points is below 3e-11. Refuses by 4. */
+uint32_t arcstring_xyz_eq(double ax, double ay, double az, double bx, double by, double bz, uint8_t *yes);
+
+/* Whether a and b or b and c are equal, or c lies between a and b on their great circle. Refuses by 4. */
+uint32_t arcstring_xyzs_coplanar(double ax, double ay, double az, double bx, double by, double bz,
+                                 double cx, double cy, double cz, uint8_t *yes);
+
+/* A point by itself: kept if its length minus 1 is below 2e-11, else divided by its length. Refuses by 4. */
+uint32_t arcstring_point(double x, double y, double z, double out[3]);
+
+/* The string that a list of points makes: each point divided by its length, and if first and last are then equal, closed
+ * and without the last. `count` is its number of vertices. Refuses by 1, 2, 3, 4 and 7. */
+uint32_t arcstring_build(const double *points, size_t points_len, double *out, size_t out_len,
+                         size_t *count, uint8_t *closed);
+
+/* The same vertices, for a caller who gives the flag. Refuses by 1, 2, 3, 4 and 7. */
+uint32_t arcstring_build_flagged(const double *points, size_t points_len, uint8_t flag, double *out, size_t out_len,
+                                 size_t *count);
+
+/* The vertices last to first. Refuses by 1, 3, 4 and 7. */
+uint32_t arcstring_walk_back(const double *v, size_t v_len, double *out, size_t out_len, size_t *count);
+
+/* A closed string's vertices from vertex `at` on, then those before it; any other string as it is.
+ * Refuses by 1, 3, 4 and 7. */
+uint32_t arcstring_restart(const double *v, size_t v_len, uint8_t closed, size_t at, double *out, size_t out_len,
+                           size_t *count);
+
+/* The run of vertices from position `from` up to, not including, `to`: the part of v that starts at v[*start] and is *len
+ * doubles long. Empty, and starting at 0, where the positions are out of order or past the end. Never refuses. */
+void arcstring_run(const double *v, size_t v_len, size_t from, size_t to, size_t *start, size_t *len);
+
+/* The class of a pair of legs: 1 clean, 2 end, 3 grazing, 4 apart. `kept` is 1 where the listings below keep its point.
+ * The point is written for a clean, an end and a kept grazing pair, not normalised. Refuses by 4. */
+uint32_t arcstring_pair(const double a[6], const double b[6], uint8_t *class_, uint8_t *kept, double point[3]);
+
+/* The kept points of one leg with every leg of a string, a mark for each (1 clean, 0 grazing), and how many pairs are
+ * clean, end, grazing and apart. Refuses by 4 of the leg, by 1, 3 and 4 of the string, and by 7. */
+uint32_t arcstring_leg_crossings(const double leg[6], const double *v, size_t v_len, uint8_t closed,
+                                 double *points, size_t points_len, uint8_t *marks, size_t marks_len,
+                                 size_t *kept, uint64_t counts[4]);
+
+/* The same of every leg of one string with every leg of another, leg by leg of the first. Refuses by 1, 3, 4 and 7. */
+uint32_t arcstring_crossings(const double *a, size_t a_len, uint8_t a_closed,
+                             const double *b, size_t b_len, uint8_t b_closed,
+                             double *points, size_t points_len, uint8_t *marks, size_t marks_len,
+                             size_t *kept, uint64_t counts[4]);
+
+/* The counts alone: clean, end, grazing, apart. They stay the same when the strings trade places, one is walked backwards
+ * or a closed one is restarted. Refuses by 1, 3 and 4. */
+uint32_t arcstring_count(const double *a, size_t a_len, uint8_t a_closed,
+                         const double *b, size_t b_len, uint8_t b_closed, uint64_t counts[4]);
+
+/* The kept points of a string with itself, normalised: legs that are not neighbours, the closing leg of a closed string
+ * left out. Refuses by 1, 3, 4 and 7. */
+uint32_t arcstring_crossings_with_self(const double *v, size_t v_len,
+                                       double *points, size_t points_len, uint8_t *marks, size_t marks_len,
+                                       size_t *kept, uint64_t counts[4]);
+
+/* Whether a string crosses itself, its closing leg included. Refuses by 1, 3 and 4. */
+uint32_t arcstring_crosses_self(const double *v, size_t v_len, uint8_t closed, uint8_t *yes);
+
+/* Whether two points are on the same side of a string: the leg between them has an even number of kept points with it.
+ * Refuses by 4 of the points, then by 1, 3 and 4 of the string. */
+uint32_t arcstring_same_side(double ax, double ay, double az, double bx, double by, double bz,
+                             const double *v, size_t v_len, uint8_t closed, uint8_t *yes);
+
+#ifdef __cplusplus
+}
+#endif
+
+#endif
