@@ -6,7 +6,7 @@
  * Every call but arcstring_run returns 0, or the number of a refusal, and then changes nothing that it was lent:
  *
  *     1  a list is not whole triples, or a string has no vertex
- *     2  fewer than two points to build from
+ *     2  fewer than two points to build from; the midpoints of an open string of one vertex
  *     3  a list has more than 1,024 points
  *     4  a coordinate is NaN, infinite, or outside -1 to 1
  *     7  the answer is longer than a buffer lent for it
@@ -90,6 +90,43 @@ uint32_t arcstring_crosses_self(const double *v, size_t v_len, uint8_t closed, u
  * Refuses by 4 of the points, then by 1, 3 and 4 of the string. */
 uint32_t arcstring_same_side(double ax, double ay, double az, double bx, double by, double bz,
                              const double *v, size_t v_len, uint8_t closed, uint8_t *yes);
+
+/* ---- Calls that read a near list, too: the points that stand for the string where nearness is asked. A built string's
+ * near list is its vertices. Its checks come after those of its vertices. */
+
+/* Whether a point is along a string: within the square root of 3e-11 of an entry of its near list, or on one of its legs as
+ * arcstring_xyzs_coplanar(start, point, end) has it. Refuses by 1, 3 and 4 of each list, then by 4 of the point. */
+uint32_t arcstring_along(double x, double y, double z, const double *v, size_t v_len,
+                         const double *near, size_t near_len, uint8_t closed, uint8_t *yes);
+
+/* Whether two strings are equal: both closed, or both open with each end of the first near an end of the second; and every
+ * vertex of each along the other. Not symmetric, as the source is not. Refuses by 1, 3 and 4 of each list in turn. */
+uint32_t arcstring_eq(const double *a, size_t a_len, const double *a_near, size_t a_near_len, uint8_t a_closed,
+                      const double *b, size_t b_len, const double *b_near, size_t b_near_len, uint8_t b_closed,
+                      uint8_t *yes);
+
+/* Whether some pair of legs keeps a crossing, where neither string is within the other. Refuses as arcstring_eq does. */
+uint32_t arcstring_crosses(const double *a, size_t a_len, const double *a_near, size_t a_near_len, uint8_t a_closed,
+                           const double *b, size_t b_len, const double *b_near, size_t b_near_len, uint8_t b_closed,
+                           uint8_t *yes);
+
+/* Whether every vertex of the first string is along the second. Refuses by 1, 3 and 4 of each list in turn. */
+uint32_t arcstring_within(const double *a, size_t a_len, const double *b, size_t b_len,
+                          const double *b_near, size_t b_near_len, uint8_t b_closed, uint8_t *yes);
+
+/* Whether every vertex of the second string is along the first. Refuses by 1, 3 and 4 of each list in turn. */
+uint32_t arcstring_contains(const double *a, size_t a_len, const double *a_near, size_t a_near_len, uint8_t a_closed,
+                            const double *b, size_t b_len, uint8_t *yes);
+
+/* ---- Measures of a string. */
+
+/* A double for each vertex: negative at a right turn, positive at a left one, NaN at both ends of an open string. `out_len`
+ * and `count` are in doubles. Refuses by 1, 3, 4 and 7. */
+uint32_t arcstring_turn_orientations(const double *v, size_t v_len, uint8_t closed, double *out, size_t out_len,
+                                     size_t *count);
+
+/* The midpoint of each leg. Refuses by 1, 2 for an open string of one vertex, 3, 4 and 7. */
+uint32_t arcstring_midpoints(const double *v, size_t v_len, uint8_t closed, double *out, size_t out_len, size_t *count);
 
 #ifdef __cplusplus
 }

@@ -23,6 +23,13 @@ mod c {
         pub fn arcstring_count(a: *const f64, an: usize, ac: u8, b: *const f64, bn: usize, bc: u8, counts: *mut u64) -> u32;
         pub fn arcstring_crossings_with_self(v: *const f64, n: usize, points: *mut f64, room: usize, marks: *mut u8, marks_room: usize, kept: *mut usize, counts: *mut u64) -> u32;
         pub fn arcstring_crosses_self(v: *const f64, n: usize, closed: u8, yes: *mut u8) -> u32;
+        pub fn arcstring_along(x: f64, y: f64, z: f64, v: *const f64, n: usize, near: *const f64, near_n: usize, closed: u8, yes: *mut u8) -> u32;
+        pub fn arcstring_eq(a: *const f64, an: usize, near: *const f64, near_n: usize, ac: u8, b: *const f64, bn: usize, b_near: *const f64, b_near_n: usize, bc: u8, yes: *mut u8) -> u32;
+        pub fn arcstring_crosses(a: *const f64, an: usize, near: *const f64, near_n: usize, ac: u8, b: *const f64, bn: usize, b_near: *const f64, b_near_n: usize, bc: u8, yes: *mut u8) -> u32;
+        pub fn arcstring_within(a: *const f64, an: usize, b: *const f64, bn: usize, near: *const f64, near_n: usize, bc: u8, yes: *mut u8) -> u32;
+        pub fn arcstring_contains(a: *const f64, an: usize, near: *const f64, near_n: usize, ac: u8, b: *const f64, bn: usize, yes: *mut u8) -> u32;
+        pub fn arcstring_turn_orientations(v: *const f64, n: usize, closed: u8, out: *mut f64, room: usize, count: *mut usize) -> u32;
+        pub fn arcstring_midpoints(v: *const f64, n: usize, closed: u8, out: *mut f64, room: usize, count: *mut usize) -> u32;
         pub fn arcstring_same_side(ax: f64, ay: f64, az: f64, bx: f64, by: f64, bz: f64, v: *const f64, n: usize, closed: u8, yes: *mut u8) -> u32;
     }
 }
@@ -162,4 +169,62 @@ pub fn same_side(a: Xyz, b: Xyz, v: &[f64], closed: u8) -> Left {
     let mut yes = BLANK_BYTE;
     let n = unsafe { c::arcstring_same_side(a[0], a[1], a[2], b[0], b[1], b[2], v.as_ptr(), v.len(), closed, &mut yes) };
     left(n, &[], &[yes], &[])
+}
+
+/// A string with its near list.
+pub struct Stored<'a> {
+    pub vertices: &'a [f64],
+    pub near: &'a [f64],
+    pub flag: u8,
+}
+
+pub fn along(p: Xyz, s: &Stored) -> Left {
+    let mut yes = BLANK_BYTE;
+    let n = unsafe { c::arcstring_along(p[0], p[1], p[2], s.vertices.as_ptr(), s.vertices.len(), s.near.as_ptr(), s.near.len(), s.flag, &mut yes) };
+    left(n, &[], &[yes], &[])
+}
+
+type OfTwo = unsafe extern "C" fn(*const f64, usize, *const f64, usize, u8, *const f64, usize, *const f64, usize, u8, *mut u8) -> u32;
+
+fn of_two(call: OfTwo, a: &Stored, b: &Stored) -> Left {
+    let mut yes = BLANK_BYTE;
+    let n = unsafe {
+        call(a.vertices.as_ptr(), a.vertices.len(), a.near.as_ptr(), a.near.len(), a.flag, b.vertices.as_ptr(), b.vertices.len(), b.near.as_ptr(), b.near.len(), b.flag, &mut yes)
+    };
+    left(n, &[], &[yes], &[])
+}
+
+pub fn eq(a: &Stored, b: &Stored) -> Left {
+    of_two(c::arcstring_eq, a, b)
+}
+
+pub fn crosses(a: &Stored, b: &Stored) -> Left {
+    of_two(c::arcstring_crosses, a, b)
+}
+
+pub fn within(a: &[f64], b: &Stored) -> Left {
+    let mut yes = BLANK_BYTE;
+    let n = unsafe { c::arcstring_within(a.as_ptr(), a.len(), b.vertices.as_ptr(), b.vertices.len(), b.near.as_ptr(), b.near.len(), b.flag, &mut yes) };
+    left(n, &[], &[yes], &[])
+}
+
+pub fn contains(a: &Stored, b: &[f64]) -> Left {
+    let mut yes = BLANK_BYTE;
+    let n = unsafe { c::arcstring_contains(a.vertices.as_ptr(), a.vertices.len(), a.near.as_ptr(), a.near.len(), a.flag, b.as_ptr(), b.len(), &mut yes) };
+    left(n, &[], &[yes], &[])
+}
+
+pub fn turn_orientations(v: &[f64], closed: u8, room: usize) -> Left {
+    let (mut out, mut count) = (blank(room), BLANK_COUNT as usize);
+    let n = unsafe { c::arcstring_turn_orientations(v.as_ptr(), v.len(), closed, out.as_mut_ptr(), room, &mut count) };
+    for x in &mut out {
+        *x = if x.is_nan() { f64::NAN } else { *x };
+    }
+    left(n, &out, &[], &[count as u64])
+}
+
+pub fn midpoints(v: &[f64], closed: u8, room: usize) -> Left {
+    let (mut out, mut count) = (blank(room), BLANK_COUNT as usize);
+    let n = unsafe { c::arcstring_midpoints(v.as_ptr(), v.len(), closed, out.as_mut_ptr(), room, &mut count) };
+    left(n, &out, &[], &[count as u64])
 }

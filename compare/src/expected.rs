@@ -1,9 +1,12 @@
 //! What each call is to answer: the refusals from an independent reading of document 01's table, the results from the
 //! published Rust. The published listings say which points are kept; the classes are worked out here from the
 //! published vector functions.
-use crate::calls::{BLANK, BLANK_BYTE, BLANK_COUNT, Left, bits};
+use crate::calls::{BLANK, BLANK_BYTE, BLANK_COUNT, Left, Stored, bits};
 use crate::random::Xyz;
-use sphersgeo::arcstring::{ArcString, arc_crossings_with_arcstring, arcs_crossing, points_are_on_same_side};
+use sphersgeo::arcstring::{
+    ArcString, arc_crossings_with_arcstring, arcs_crossing, point_is_along_arcstring, points_are_on_same_side, xyzs_turn_orientations,
+};
+use sphersgeo::geometry::GeometricRelationships;
 use sphersgeo::sphericalpoint as published;
 use sphersgeo::sphericalpoint::MultiSphericalPoint;
 
@@ -281,4 +284,58 @@ pub fn crosses_self(v: &[f64], closed: bool) -> Left {
 
 pub fn same_side(a: Xyz, b: Xyz, v: &[f64], closed: bool) -> Left {
     verdict(in_turn(&[points_refusal(&flat(&[a, b])), stored_refusal(v)]), || points_are_on_same_side(&a, &b, &stored(v, closed)))
+}
+
+// ---- on a string, relations, measures
+
+fn with_near(s: &Stored) -> ArcString {
+    let mut string = stored(s.vertices, s.flag != 0);
+    string.points.kdtree = kiddo::ImmutableKdTree::new_from_slice(&triples(s.near)).unwrap();
+    string
+}
+
+fn string_refusal(s: &Stored) -> u32 {
+    in_turn(&[stored_refusal(s.vertices), stored_refusal(s.near)])
+}
+
+pub fn along(p: Xyz, s: &Stored) -> Left {
+    verdict(in_turn(&[string_refusal(s), points_refusal(&p)]), || point_is_along_arcstring(&p, &with_near(s)))
+}
+
+pub fn eq(a: &Stored, b: &Stored) -> Left {
+    verdict(in_turn(&[string_refusal(a), string_refusal(b)]), || with_near(a) == with_near(b))
+}
+
+pub fn crosses(a: &Stored, b: &Stored) -> Left {
+    verdict(in_turn(&[string_refusal(a), string_refusal(b)]), || with_near(a).crosses(&with_near(b)))
+}
+
+pub fn within(a: &[f64], b: &Stored) -> Left {
+    verdict(in_turn(&[stored_refusal(a), string_refusal(b)]), || stored(a, false).within(&with_near(b)))
+}
+
+pub fn contains(a: &Stored, b: &[f64]) -> Left {
+    verdict(in_turn(&[string_refusal(a), stored_refusal(b)]), || with_near(a).contains(&stored(b, false)))
+}
+
+pub fn turn_orientations(v: &[f64], closed: bool, room: usize) -> Left {
+    let number = in_turn(&[stored_refusal(v), first(&[(v.len() / 3 > room, 7)])]);
+    let mut left = blanks(number, room, 0, 1);
+    if number == 0 {
+        let turns: Vec<f64> = xyzs_turn_orientations(&triples(v), closed).iter().map(|x| if x.is_nan() { f64::NAN } else { *x }).collect();
+        left.floats = bits(&over(BLANK, room, &turns));
+        left.numbers = vec![turns.len() as u64];
+    }
+    left
+}
+
+pub fn midpoints(v: &[f64], closed: bool, room: usize) -> Left {
+    let number = first(&[
+        (v.len() % 3 != 0 || v.is_empty(), 1),
+        (!closed && v.len() == 3, 2),
+        (v.len() > 3072, 3),
+        (outside(v), 4),
+    ]);
+    let answer = if number == 0 { flat(&stored(v, closed).midpoints().xyzs) } else { vec![] };
+    written(number, &answer, room, None)
 }

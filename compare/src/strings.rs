@@ -1,7 +1,7 @@
 //! Every call of arcstring_c against `expected`, on strings of every length around each boundary, damaged ones, and
 //! buffers around the length of the answer.
 use crate::Tally;
-use crate::calls::{self, Left};
+use crate::calls::{self, Left, Stored};
 use crate::expected;
 use crate::random::{Points, Xyz};
 
@@ -53,6 +53,15 @@ impl Inputs {
             _ => {}
         }
         v
+    }
+
+    /// a near list: the vertices, without some of them, other points, or a damaged one
+    fn near(&mut self, v: &[f64]) -> Vec<f64> {
+        match self.below(8) {
+            0 => self.string(),
+            1 => v.iter().copied().take(3 * (1 + self.below(v.len() as u64 / 3 + 1)) as usize).collect(),
+            _ => v.to_vec(),
+        }
     }
 
     fn single(&mut self) -> Xyz {
@@ -172,6 +181,50 @@ fn listings(tally: &mut Tally, i: &mut Inputs) {
     check(tally, "same_side", answer(&theirs), calls::same_side(p, q, &a, fa), theirs, || format!("{} of {fa} {}", show(&expected::flat(&[p, q])), show(&a)));
 }
 
+/// Strings with near lists that are their vertices, a part of them, or other points; points near and far.
+fn relations(tally: &mut Tally, i: &mut Inputs) {
+    let (a, mut b) = (i.string(), i.string());
+    if i.below(3) == 0 {
+        b = shared(&a, i);
+    }
+    let (a_near, b_near) = (i.near(&a), i.near(&b));
+    let s = Stored { vertices: &a, near: &a_near, flag: i.flag() };
+    let t = Stored { vertices: &b, near: &b_near, flag: i.flag() };
+    let input = || format!("{} {} ({}) | {} {} ({})", s.flag, show(&a), show(&a_near), t.flag, show(&b), show(&b_near));
+    let p = i.single();
+    let theirs = expected::along(p, &s);
+    check(tally, "along", answer(&theirs), calls::along(p, &s), theirs, || format!("{} of {}", show(&p), input()));
+    let theirs = expected::eq(&s, &t);
+    check(tally, "eq", answer(&theirs), calls::eq(&s, &t), theirs, input);
+    let theirs = expected::within(&a, &t);
+    check(tally, "within", answer(&theirs), calls::within(&a, &t), theirs, input);
+    let theirs = expected::contains(&s, &b);
+    check(tally, "contains", answer(&theirs), calls::contains(&s, &b), theirs, input);
+    let theirs = expected::crosses(&s, &t);
+    check(tally, "crosses", answer(&theirs), calls::crosses(&s, &t), theirs, input);
+    let room = i.room(a.len() / 3);
+    check(tally, "turn_orientations", "", calls::turn_orientations(&a, s.flag, room), expected::turn_orientations(&a, s.flag != 0, room), || format!("room {room}: {}", input()));
+    let room = i.room(if s.flag != 0 { a.len() } else { a.len().saturating_sub(3) });
+    check(tally, "midpoints", "", calls::midpoints(&a, s.flag, room), expected::midpoints(&a, s.flag != 0, room), || format!("room {room}: {}", input()));
+}
+
+/// a string like another: backwards, with midpoints put in, or a few vertices of it
+fn shared(a: &[f64], i: &mut Inputs) -> Vec<f64> {
+    let mut points = expected::triples(a);
+    match i.below(3) {
+        0 => points.reverse(),
+        1 => points.truncate(1 + i.below(points.len() as u64 + 1) as usize),
+        _ => {
+            let n = points.len();
+            if n > 1 {
+                let (p, q) = (points[0], points[1]);
+                points.insert(1, [(p[0] + q[0]) / 2.0, (p[1] + q[1]) / 2.0, (p[2] + q[2]) / 2.0]);
+            }
+        }
+    }
+    expected::flat(&points)
+}
+
 /// The counts and the clean points after a random list of changes are those before it.
 fn symmetry(tally: &mut Tally, i: &mut Inputs) {
     let (mut a, mut b) = (i.string(), i.string());
@@ -213,6 +266,7 @@ pub fn run(tally: &mut Tally, n: u64) {
         singles(tally, &mut i);
         moves(tally, &mut i);
         listings(tally, &mut i);
+        relations(tally, &mut i);
         symmetry(tally, &mut i);
     }
 }

@@ -79,3 +79,26 @@ module _ {A : Type 0} (k : Checked) where
 
   pub answer-accepted-in-three : (l m n : ℕ) (x : Answer A) → k ≡ Accepted → checkNumber k ≡ firstOf l (firstOf m n) → x ≡ unlessRefused l (unlessRefused m (unlessRefused n x))
   answer-accepted-in-three l m n x h g = answer-accepted-first k l (firstOf m n) x h g ∙ ap (unlessRefused l) (in-turn m n x)
+
+-- all of three pass, all of four
+pub passed-in-three : (k : Checked) (l m n : ℕ) → k ≡ Accepted → checkNumber k ≡ firstOf l (firstOf m n) → (l ≡ 0) × (m ≡ 0) × (n ≡ 0)
+passed-in-three k l m n h g =
+    let z : firstOf l (firstOf m n) ≡ 0 = sym g ∙ ap checkNumber h in
+    let y = second-passes l (firstOf m n) z in
+    (first-passes l (firstOf m n) z, first-passes m n y, second-passes m n y)
+
+pub passed-in-four : (k : Checked) (j l m n : ℕ) → k ≡ Accepted → checkNumber k ≡ firstOf j (firstOf l (firstOf m n)) → (j ≡ 0) × (l ≡ 0) × (m ≡ 0) × (n ≡ 0)
+passed-in-four k j l m n h g =
+    let three = passed-in-three k j l (firstOf m n) h g in
+    (three .0, three .1, first-passes m n (three .2), second-passes m n (three .2))
+
+-- ---- four checks in turn
+
+module _ {A : Type 0} (k : Checked) where
+  pub answer-refused-in-four : (e : Refusal) (j l m n : ℕ) (x : Answer A) → k ≡ Refused e → checkNumber k ≡ firstOf j (firstOf l (firstOf m n))
+      → refused (refusalNumber e) ≡ unlessRefused j (unlessRefused l (unlessRefused m (unlessRefused n x)))
+  answer-refused-in-four e j l m n x h g = answer-refused-in-three k e j l (firstOf m n) x h g ∙ ap (λ (y : Answer A). unlessRefused j (unlessRefused l y)) (in-turn m n x)
+
+  pub answer-accepted-in-four : (j l m n : ℕ) (x : Answer A) → k ≡ Accepted → checkNumber k ≡ firstOf j (firstOf l (firstOf m n))
+      → x ≡ unlessRefused j (unlessRefused l (unlessRefused m (unlessRefused n x)))
+  answer-accepted-in-four j l m n x h g = answer-accepted-in-three k j l (firstOf m n) x h g ∙ ap (λ (y : Answer A). unlessRefused j (unlessRefused l y)) (in-turn m n x)

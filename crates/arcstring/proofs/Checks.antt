@@ -77,7 +77,7 @@ module _ (v : List Float) where
 
 -- ---- what an accepted list is
 
-if-none : (b : Bool) (n : ℕ) → numberIf b (suc n) ≡ 0 → b ≡ false
+pub if-none : (b : Bool) (n : ℕ) → numberIf b (suc n) ≡ 0 → b ≡ false
 if-none true n h = absurd (let z : suc n ≡ 0 = h in omega arith)
 if-none false n h = refl
 
@@ -100,13 +100,13 @@ module _ (few : ℕ) (v : List Float) where
   abbrev outside : ℕ
   outside = numberIf (not (allInRange v)) 4
 
-  few-passes : listCheck few v ≡ 0 → few ≡ 0
+  pub few-passes : listCheck few v ≡ 0 → few ≡ 0
   unfolding listCheck
   few-passes h = first-passes few (firstOf over outside) (second-passes not-triples (firstOf few (firstOf over outside)) h)
 
-  whole : listCheck few v ≡ 0 → WholeList v
+  pub whole-list : listCheck few v ≡ 0 → WholeList v
   unfolding listCheck
-  whole h =
+  whole-list h =
       let rest = second-passes few (firstOf over outside) (second-passes not-triples (firstOf few (firstOf over outside)) h) in
       let t : length v % 3 ≡ 0 = eqb-true (length v % 3) 0 (if-none-not (eqb (length v % 3) 0) 0 (first-passes not-triples (firstOf few (firstOf over outside)) h)) in
       record {
@@ -118,7 +118,7 @@ module _ (few : ℕ) (v : List Float) where
 -- an accepted stored list: whole triples, at least one point, at most 1,024, every coordinate in range
 pub stored-whole : (v : List Float) → storedCheck v ≡ 0 → WholeList v
 unfolding storedCheck
-stored-whole v h = whole (numberIf (eqb (length v) 0) 1) v h
+stored-whole v h = whole-list (numberIf (eqb (length v) 0) 1) v h
 
 pub stored-some : (v : List Float) → storedCheck v ≡ 0 → 1 ≤ length v / 3
 unfolding storedCheck
@@ -130,7 +130,7 @@ stored-some v h =
 -- an accepted list to build from has two points at least
 pub build-whole : (v : List Float) → buildCheck v ≡ 0 → WholeList v
 unfolding buildCheck
-build-whole v h = whole (numberIf (ltb (length v / 3) 2) 2) v h
+build-whole v h = whole-list (numberIf (ltb (length v / 3) 2) 2) v h
 
 pub build-two : (v : List Float) → buildCheck v ≡ 0 → 2 ≤ length v / 3
 unfolding buildCheck

@@ -1,13 +1,14 @@
 -- Laws of flat lists: points to floats and back, lengths, parts, and the point that stands at a position. Assumes nothing.
-use mathlib.Core.Path.{_≡_, refl, ap}
+use mathlib.Core.Path.{_≡_, refl, sym, ap, ap₂, _∙_}
 use mathlib.Core.List.{List, [], _∷_, _++_, append-assoc}
-use Prim.Native.Nat.{ℕ, zero, suc, _+_, _*_, _/_, _≤_}
+use Prim.Native.Nat.{ℕ, zero, suc, _+_, _*_, _/_, _≤_, _<_}
+use native.Mathlib.Numerals.{add-one}
 use native.Mathlib.Omega.{arith}
 use lib.ListN.{length, getD, take, drop}
-use lib.Seq.{drop-nil, take-nil, take-suc, getD-drop}
+use lib.Seq.{drop-nil, drop-cons, take-nil, take-suc, getD-drop}
 use lib.Ieee.{Float, nan}
 use Rattle.sphericalpoint.specs.declared.SphericalPoint.{SphericalPoint}
-use Rattle.arcstring.specs.Points.{point, points, flat, pointAt}
+use Rattle.arcstring.specs.Points.{point, points, flat, pointAt, noPoint}
 
 triple : (k : ℕ) → 3 * suc k ≡ suc (suc (suc (3 * k)))
 triple k = omega arith
@@ -109,3 +110,9 @@ take-next v k h =
     let e1 : 3 * k + 1 ≡ suc (3 * k) = omega arith in
     let e2 : 3 * k + 2 ≡ suc (suc (3 * k)) = omega arith in
     simp (e, e1, e2, take-suc v (suc (suc (3 * k))) nan (omega arith), take-suc v (suc (3 * k)) nan (omega arith), take-suc v (3 * k) nan (omega arith), append-assoc)
+
+-- the points from k on begin with point k
+pub points-next : (n : ℕ) (v : List Float) (k : ℕ) → length v ≡ 3 * n → k < n → drop k (points v) ≡ pointAt v k ∷ drop (k + 1) (points v)
+points-next n v k whole h =
+    drop-cons (points v) k noPoint (omega (arith, length-points n v whole))
+    ∙ ap₂ _∷_ (point-at v k noPoint (omega arith)) (ap (λ (j : ℕ). drop j (points v)) (sym (add-one k)))

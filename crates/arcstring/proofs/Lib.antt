@@ -1,9 +1,11 @@
--- The laws of the string layer. For others to cite: `Demand3`, the two theorems of `specs/Changes.antt`; `Counting`; `Finite` with `AcceptedLegs`; `KnownAnswers`; and what callers' proofs need, `Answers`, `Checks`, `Flat`, `Splices`. The rest serves these and the functions' proofs.
+-- The laws of the string layer. For others to cite: `Demand3`, the two theorems of `specs/Changes.antt`; `Counting`; `Finite` with `AcceptedLegs`; `KnownAnswers`; `NearEntries` and `Relations`; and what callers' proofs need, `Answers`, `Checks`, `Flat`, `Splices`. The rest serves these and the functions' proofs.
 pub mod Demand3
 pub mod Counting
 pub mod Finite
 pub mod AcceptedLegs
 pub mod KnownAnswers
+pub mod NearEntries
+pub mod Relations
 pub mod Answers
 pub mod Checks
 pub mod Flat
@@ -27,3 +29,6 @@ mod Rows
 mod Signs
 mod Tallies
 mod Visits
+mod AlongLegs
+mod Turns
+mod Midpoints

@@ -10,3 +10,6 @@ pub mod Plane
 pub mod Listing
 pub mod Tally
 pub mod Changes
+pub mod OnString
+pub mod Relation
+pub mod Measure

@@ -28,7 +28,7 @@ pub enum Crossed {
     Refused(Refusal),
 }
 
-fn start_of(arc: [[f64; 3]; 2]) -> SphericalPoint
+pub(crate) fn start_of(arc: [[f64; 3]; 2]) -> SphericalPoint
     ensures { λ r. ⌜ r ≡ legOf arc .from ⌝ }
 {
     SphericalPoint {
@@ -38,7 +38,7 @@ fn start_of(arc: [[f64; 3]; 2]) -> SphericalPoint
     }
 }
 
-fn end_of(arc: [[f64; 3]; 2]) -> SphericalPoint
+pub(crate) fn end_of(arc: [[f64; 3]; 2]) -> SphericalPoint
     ensures { λ r. ⌜ r ≡ legOf arc .to ⌝ }
 {
     SphericalPoint {

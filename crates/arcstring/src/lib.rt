@@ -8,13 +8,19 @@
 //     walk      backwards, restarted, and the run between two positions
 //     crossing  the class of a pair of legs
 //     listing   the crossings and counts of two strings, of a leg and a string, of a string with itself
+//     on_string whether a point is near an entry of the near list, or along the string
+//     relation  `==`, within, contains, crosses
+//     measure   turn orientations and midpoints
 //
 // vertex and tally hold what these share.
 pub mod build;
 pub mod check;
 pub mod crossing;
 pub mod listing;
+pub mod measure;
+pub mod on_string;
 pub mod point;
+pub mod relation;
 pub(crate) mod tally;
 pub(crate) mod vertex;
 pub mod walk;

@@ -45,7 +45,7 @@ pub enum Listed {
 }
 
 // The pairs of two accepted strings, counted.
-fn tally_two(a: &[f64], a_closed: bool, b: &[f64], b_closed: bool) -> Tally
+pub(crate) fn tally_two(a: &[f64], a_closed: bool, b: &[f64], b_closed: bool) -> Tally
     requires { ⌜ (storedCheck (now a) ≡ 0) × (storedCheck (now b) ≡ 0) ⌝ }
     ensures { λ r. ⌜ (r ≡ tallyOn noTally (visited (now (a .entry)) «a_closed» (now (b .entry)) «b_closed»)) × (r .kept ≤ 1048576) ⌝ }
 {

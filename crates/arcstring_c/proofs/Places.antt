@@ -5,12 +5,10 @@ use mathlib.Core.List.{List}
 use Prim.Native.Nat.{ℕ}
 use lib.ListN.{length}
 use lib.Ieee.{Float}
-use Rattle.sphericalpoint.specs.declared.SphericalPoint.{SphericalPoint}
 use Rattle.arcstring.specs.declared.listing.Counts.{Counts}
 use Rattle.arcstring.specs.Answer.{Answer, refused, answered, mapAnswer, leaves}
 use Rattle.arcstring.specs.Points.{ArcString}
 use Rattle.arcstring.specs.Build.{builtResult}
-use Rattle.arcstring.specs.Walk.{writtenResult}
 use Rattle.arcstring.specs.Listing.{Listing, listedResult, listedFloats, listedBytes}
 use Rattle.arcstring_c.specs.Numbers.{answerNumber, leftIn, flagByte, vertexCount, closedByte, keptCount, listingCounts, listedKept, listedCounts}
 
@@ -59,8 +57,8 @@ module _ (a : Answer ArcString) {b : Answer (ℕ × Bool)} (h : b ≡ builtResul
   pub built-closed : (old : ℕ) {x : ℕ} → x ≡ leftIn (λ (r : ℕ × Bool). flagByte (r .1)) b old → x ≡ leftIn closedByte a old
   built-closed old p = place-of builtPart a h (λ (r : ℕ × Bool). flagByte (r .1)) old p
 
--- vertices that were moved
-module _ (a : Answer (List SphericalPoint)) {b : Answer ℕ} (h : b ≡ writtenResult a) where
+-- points or floats that were written
+module _ {A : Type 0} (a : Answer (List A)) {b : Answer ℕ} (h : b ≡ mapAnswer length a) where
   pub written-number : {n : ℕ} → n ≡ answerNumber b → n ≡ answerNumber a
   written-number p = number-of length a h p
 

@@ -13,6 +13,10 @@ ghost use Rattle.arcstring.specs.Walk.{walkBack, restart, writtenFloats};
 ghost use Rattle.arcstring.specs.Crossing.{leg, legOf, arcsCrossing};
 ghost use Rattle.arcstring.specs.Listing.{counted, crossings, legCrossings, selfCrossings, crossesSelf, sameSide, listedAnswer, listedFloats, listedBytes};
 ghost use Rattle.arcstring_c.specs.Numbers.{answerNumber, leftIn, flag, flagByte, threeFloats, legOfSix, classNumber, keptByte, pairPoint, vertexCount, closedByte, fourCounts, keptCount, listingCounts, listedKept, listedCounts, runLength, runStart};
+
+mod measure;
+mod near;
+
 use arcstring::build::Built;
 use arcstring::check::Decided;
 use arcstring::check::Refusal;
@@ -27,7 +31,7 @@ use arcstring::walk::Written;
 use sphericalpoint::SphericalPoint;
 
 // Document 01's number of a refusal.
-fn number(e: Refusal) -> u32
+pub(crate) fn number(e: Refusal) -> u32
     ensures { λ r. ⌜ r ≡ refusalNumber e ⌝ }
 {
     match e {
@@ -45,7 +49,7 @@ fn byte(yes: bool) -> u8
     if yes { 1 } else { 0 }
 }
 
-fn is_closed(closed: u8) -> bool
+pub(crate) fn is_closed(closed: u8) -> bool
     ensures { λ r. ⌜ r ≡ flag closed ⌝ }
 {
     closed != 0
@@ -70,7 +74,7 @@ fn put_counts(out: &mut [u64; 4], c: Counts)
 }
 
 // A verdict put into its place, or its refusal's number.
-fn decide(d: Decided, yes: &mut u8) -> u32
+pub(crate) fn decide(d: Decided, yes: &mut u8) -> u32
     ensures { λ r. ⌜ (r ≡ answerNumber (decidedAnswer d)) × (now (yes .exit) ≡ leftIn flagByte (decidedAnswer d) (now (yes .entry))) ⌝ }
 {
     match d {

@@ -1,3 +1,3 @@
-mod Tolerances
+pub mod Tolerances
 mod Sizes
 mod Cases

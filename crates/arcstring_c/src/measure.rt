@@ -1,0 +1,50 @@
+// The measures of a string.
+ghost use mathlib.Core.Path.{_≡_};
+ghost use lib.ListN.{length};
+ghost use Rattle.arcstring.specs.Answer.{leaves};
+ghost use Rattle.arcstring.specs.Walk.{writtenFloats};
+ghost use Rattle.arcstring.specs.Measure.{turnOrientations, midpoints};
+ghost use Rattle.arcstring_c.specs.Numbers.{answerNumber, leftIn, flag};
+use arcstring::walk::Written;
+
+#[no_mangle]
+pub extern "C" fn arcstring_turn_orientations(
+    v: &[f64],
+    closed: u8,
+    out: &mut [f64],
+    count: &mut usize,
+) -> u32
+    ensures { λ r. ⌜ r ≡ answerNumber (turnOrientations (now (v .entry)) (flag closed) (length (now (out .entry)))) ⌝ }
+    ensures { λ _. ⌜ now (out .exit) ≡ leaves (turnOrientations (now (v .entry)) (flag closed) (length (now (out .entry)))) (now (out .entry)) ⌝ }
+    ensures { λ _. ⌜ now (count .exit) ≡ leftIn length (turnOrientations (now (v .entry)) (flag closed) (length (now (out .entry)))) (now (count .entry)) ⌝ }
+{
+    let r = arcstring::measure::xyzs_turn_orientations(v, crate::is_closed(closed), out);
+    match r {
+        Written::Refused(e) => crate::number(e),
+        Written::Vertices(n) => {
+            *count = n;
+            0
+        }
+    }
+}
+
+#[no_mangle]
+pub extern "C" fn arcstring_midpoints(
+    v: &[f64],
+    closed: u8,
+    out: &mut [f64],
+    count: &mut usize,
+) -> u32
+    ensures { λ r. ⌜ r ≡ answerNumber (midpoints (now (v .entry)) (flag closed) (length (now (out .entry)))) ⌝ }
+    ensures { λ _. ⌜ now (out .exit) ≡ leaves (writtenFloats (midpoints (now (v .entry)) (flag closed) (length (now (out .entry))))) (now (out .entry)) ⌝ }
+    ensures { λ _. ⌜ now (count .exit) ≡ leftIn length (midpoints (now (v .entry)) (flag closed) (length (now (out .entry)))) (now (count .entry)) ⌝ }
+{
+    let r = arcstring::measure::midpoints(v, crate::is_closed(closed), out);
+    match r {
+        Written::Refused(e) => crate::number(e),
+        Written::Vertices(n) => {
+            *count = n;
+            0
+        }
+    }
+}
