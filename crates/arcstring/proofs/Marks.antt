@@ -80,6 +80,19 @@ module _ (ps : List Pair) (at : ℕ) (points : List Float) (marks : List ℕ) wh
 
 -- ---- pairs after pairs
 
+nothing-of : (ms : List Mark) → length ms ≡ 0 → ms ≡ []
+nothing-of [] h = refl
+nothing-of (m ∷ ms) h = absurd (omega arith)
+
+pub none-keeps-none : (ps : List Pair) → ps ≡ [] → length (keptMarks ps) ≡ 0
+unfolding keptMarks filterMap
+none-keeps-none ps h = ap (λ (l : List Pair). length (keptMarks l)) h
+
+-- where as many are written as all pairs keep, the others keep none
+pub none-left : (all : List Pair) (points : List Float) (marks : List ℕ) (rest : List Pair) (next : ℕ) (points' : List Float) (marks' : List ℕ)
+    → WritesSame all 0 points marks rest next points' marks' → next ≡ length (keptMarks all) → length (keptMarks rest) ≡ 0
+none-left all points marks rest next points' marks' w h = omega (arith, w .same-place)
+
 pub nothing-written : (ps : List Pair) (at : ℕ) (points : List Float) (marks : List ℕ) → WritesSame ps at points marks ps at points marks
 nothing-written ps at points marks = record { same-place = refl; same-points = refl; same-marks = refl; points-length = refl; marks-length = refl }
 
@@ -128,11 +141,15 @@ module _ (all : List Pair) (at : ℕ) (points : List Float) (marks : List ℕ) (
         marks-length = ap length (s .1 .1) ∙ length-splice marks' next (bytesOf ps) (omega arith) ∙ w .marks-length;
       }
 
-  pub all-written : (rest : List Pair) → rest ≡ [] → WritesSame all at points marks rest next points' marks' → Written all at points marks next points' marks'
-  unfolding keptMarks filterMap
+  pub all-written : (rest : List Pair) → length (keptMarks rest) ≡ 0 → WritesSame all at points marks rest next points' marks' → Written all at points marks next points' marks'
   all-written rest h w =
-      let e : length (keptMarks rest) ≡ 0 = ap (λ (l : List Pair). length (keptMarks l)) h in
-      (omega (arith, w .same-place), (sym (splice-nothing points' (3 * next)) ∙ ap (λ (l : List Pair). splice points' (3 * next) (pointsOf l)) (sym h) ∙ w .same-points, sym (splice-nothing marks' next) ∙ ap (λ (l : List Pair). splice marks' next (bytesOf l)) (sym h) ∙ w .same-marks))
+      let e = nothing-of (keptMarks rest) h in (
+        omega (arith, w .same-place),
+        (
+          sym (splice-nothing points' (3 * next)) ∙ ap (λ (ms : List Mark). splice points' (3 * next) (flat (map markPoint ms))) (sym e) ∙ w .same-points,
+          sym (splice-nothing marks' next) ∙ ap (λ (ms : List Mark). splice marks' next (map markByte ms)) (sym e) ∙ w .same-marks,
+        ),
+      )
 
 -- ---- the same pairs by another name
 
@@ -140,6 +157,9 @@ module _ (ps qs : List Pair) (same : ps ≡ qs) (points : List Float) (marks : L
   pub room-of : (3 * length (keptMarks qs) ≤ length points) × (length (keptMarks qs) ≤ length marks)
       → (3 * length (keptMarks ps) ≤ length points) × (length (keptMarks ps) ≤ length marks)
   room-of r = let e = ap (λ (l : List Pair). length (keptMarks l)) same in (omega arith, omega arith)
+
+  pub kept-of : (kept : ℕ) → kept ≡ length (keptMarks qs) → kept ≡ length (keptMarks ps)
+  kept-of kept h = h ∙ sym (ap (λ (l : List Pair). length (keptMarks l)) same)
 
   pub written-of : (points' : List Float) (marks' : List ℕ) → (points' ≡ splice points 0 (pointsOf ps)) × (marks' ≡ splice marks 0 (bytesOf ps))
       → (points' ≡ splice points 0 (pointsOf qs)) × (marks' ≡ splice marks 0 (bytesOf qs))

@@ -67,10 +67,11 @@ fn list_two(
     a_closed: bool,
     b: &[f64],
     b_closed: bool,
+    kept: usize,
     points: &mut [f64],
     marks: &mut [u8],
 )
-    requires { ⌜ (storedCheck (now a) ≡ 0) × (storedCheck (now b) ≡ 0) ⌝ }
+    requires { ⌜ (storedCheck (now a) ≡ 0) × (storedCheck (now b) ≡ 0) × (kept ≡ length (keptMarks (visited (now a) «a_closed» (now b) «b_closed»))) ⌝ }
     requires { ⌜ 3 * length (keptMarks (visited (now a) «a_closed» (now b) «b_closed»)) ≤ length (now points) ⌝ }
     requires { ⌜ length (keptMarks (visited (now a) «a_closed» (now b) «b_closed»)) ≤ length (now marks) ⌝ }
     ensures { λ _. ⌜ now (points .exit) ≡ splice (now (points .entry)) 0 (flat (map markPoint (keptMarks (visited (now (a .entry)) «a_closed» (now (b .entry)) «b_closed»)))) ⌝ }
@@ -85,6 +86,7 @@ fn list_two(
         b,
         nb,
         tally::leg_count(nb, b_closed),
+        kept,
         points,
         marks,
     );
@@ -138,7 +140,7 @@ pub fn crossings(
     if let Checked::Refused(e) = room {
         return Listed::Refused(e);
     }
-    list_two(a, a_closed, b, b_closed, points, marks);
+    list_two(a, a_closed, b, b_closed, t.kept, points, marks);
     Listed::Listing(t.kept, tally::counts_of(t))
 }
 
@@ -233,7 +235,7 @@ fn list_self(v: &[f64], kept: usize, points: &mut [f64], marks: &mut [u8])
     ensures { λ _. ⌜ now (marks .exit) ≡ splice (now (marks .entry)) 0 (map markByte (keptMarks (selfPairs (now (v .entry)) false))) ⌝ }
 {
     let n = v.len() / 3;
-    tally::list_within(v, n, n - 1, points, marks);
+    tally::list_within(v, n, n - 1, kept, points, marks);
     build::normalize_points(points, kept);
 }
 

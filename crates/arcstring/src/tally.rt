@@ -261,7 +261,7 @@ pub(crate) fn list_row(
 }
 
 // What the first `la` legs of a string keep of their pairs with the first `lb` legs of another, written from the
-// start of the buffers.
+// start of the buffers. `kept` is how many points that is: where all are written the walk ends.
 pub(crate) fn list_between(
     a: &[f64],
     na: usize,
@@ -269,10 +269,11 @@ pub(crate) fn list_between(
     b: &[f64],
     nb: usize,
     lb: usize,
+    kept: usize,
     points: &mut [f64],
     marks: &mut [u8],
 )
-    requires { ⌜ (length (now a) ≡ 3 * na) × (la ≤ na) × (length (now b) ≡ 3 * nb) × (lb ≤ nb) ⌝ }
+    requires { ⌜ (length (now a) ≡ 3 * na) × (la ≤ na) × (length (now b) ≡ 3 * nb) × (lb ≤ nb) × (kept ≡ length (keptMarks (pairsBetween (legsFrom (now a) 0 la) (legsFrom (now b) 0 lb)))) ⌝ }
     requires { ⌜ 3 * length (keptMarks (pairsBetween (legsFrom (now a) 0 la) (legsFrom (now b) 0 lb))) ≤ length (now points) ⌝ }
     requires { ⌜ length (keptMarks (pairsBetween (legsFrom (now a) 0 la) (legsFrom (now b) 0 lb))) ≤ length (now marks) ⌝ }
     ensures { λ _. ⌜ now (points .exit) ≡ splice (now (points .entry)) 0 (flat (map markPoint (keptMarks (pairsBetween (legsFrom (now (a .entry)) 0 la) (legsFrom (now (b .entry)) 0 lb))))) ⌝ }
@@ -281,15 +282,25 @@ pub(crate) fn list_between(
     let mut next = 0;
     let mut i = 0;
     while i < la {
+        if next == kept {
+            return;
+        }
         next = list_row(leg_plane(a, na, i), b, nb, 0, lb, points, marks, next);
         i += 1;
     }
 }
 
 // What the first `l` legs of a string keep of their pairs with those after the next one, written from the start of
-// the buffers.
-pub(crate) fn list_within(v: &[f64], n: usize, l: usize, points: &mut [f64], marks: &mut [u8])
-    requires { ⌜ (length (now v) ≡ 3 * n) × (l ≤ n) × (n ≤ 1024) ⌝ }
+// the buffers. `kept` is how many points that is: where all are written the walk ends.
+pub(crate) fn list_within(
+    v: &[f64],
+    n: usize,
+    l: usize,
+    kept: usize,
+    points: &mut [f64],
+    marks: &mut [u8],
+)
+    requires { ⌜ (length (now v) ≡ 3 * n) × (l ≤ n) × (n ≤ 1024) × (kept ≡ length (keptMarks (pairsWithin (legsFrom (now v) 0 l)))) ⌝ }
     requires { ⌜ 3 * length (keptMarks (pairsWithin (legsFrom (now v) 0 l))) ≤ length (now points) ⌝ }
     requires { ⌜ length (keptMarks (pairsWithin (legsFrom (now v) 0 l))) ≤ length (now marks) ⌝ }
     ensures { λ _. ⌜ now (points .exit) ≡ splice (now (points .entry)) 0 (flat (map markPoint (keptMarks (pairsWithin (legsFrom (now (v .entry)) 0 l))))) ⌝ }
@@ -298,6 +309,9 @@ pub(crate) fn list_within(v: &[f64], n: usize, l: usize, points: &mut [f64], mar
     let mut next = 0;
     let mut i = 0;
     while i < l {
+        if next == kept {
+            return;
+        }
         next = list_row(leg_plane(v, n, i), v, n, i + 2, l, points, marks, next);
         i += 1;
     }

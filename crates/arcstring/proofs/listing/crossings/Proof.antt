@@ -6,6 +6,7 @@ use Rattle.arcstring.specs.Listing.{Listing, listingOf, visited, crossin
 use Rattle.arcstring.specs.Tally.{noTally, tallyOn}
 use Rattle.arcstring.proofs.Answers.{answer-refused-first, answer-accepted-first, both-numbers}
 use Rattle.arcstring.proofs.Listings.{both-accepted, refused-leaves, lists-plain, no-room-leaves, listing-leaves, room-for-all}
+use Rattle.arcstring.proofs.Tallies.{tally-kept}
 use borrow.Author.Needs.{needs}
 use Rattle.arcstring.proofs.listing.crossings.Statement.{statement}
 use Rattle.arcstring.proofs.listing.crossings.Tie as tie
@@ -65,7 +66,8 @@ list-two-requires : tie.Need-list-two-requires
 list-two-requires c κs =
     let d = c .before .before .before .before in
     let s = d .before .before .before .before .before .before .before .before .before .before .before in
-    (accepted (d .before .before), room-for-all _ _ (lists-plain _) _ (counts (d .before)) _ (s .args .points .now) (s .args .marks .now) (d .check-buffers .ensures) (c .before .before .enum-told2 .given .1))
+    let ok = accepted (d .before .before) in
+    ((ok .0, ok .1, tally-kept _ _ (counts (d .before))), room-for-all _ _ (lists-plain _) _ (counts (d .before)) _ (s .args .points .now) (s .args .marks .now) (d .check-buffers .ensures) (c .before .before .enum-told2 .given .1))
 
 counts-of-requires : tie.Need-counts-of-requires
 counts-of-requires c κs = search needs

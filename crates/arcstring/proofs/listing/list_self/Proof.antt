@@ -7,7 +7,7 @@ use borrow.Author.Needs.{needs}
 use Rattle.arcstring.proofs.Checks.{stored-whole, stored-some}
 use Rattle.arcstring.proofs.Legs.{open-count}
 use Rattle.arcstring.proofs.Listings.{normalized-in-place}
-use Rattle.arcstring.proofs.Marks.{room-of, written-of}
+use Rattle.arcstring.proofs.Marks.{kept-of, room-of, written-of}
 use Rattle.arcstring.proofs.Visits.{self-visits}
 use Rattle.arcstring.proofs.listing.list_self.Statement.{statement}
 use Rattle.arcstring.proofs.listing.list_self.Tie as tie
@@ -18,7 +18,8 @@ sub-list-within c = stored-some _ (c .before .before .before .pre .0 .0)
 list-within-requires : tie.Need-list-within-requires
 list-within-requires c κs = let s = c .before .before .before .before .before in
     let w = stored-whole _ (s .pre .0 .0) in
-    ((w .triples, omega arith, w .at-most), room-of _ _ (self-visits _ _ _ (s .pre .0 .0) (open-count _ _ refl)) (s .args .points .now) (s .args .marks .now) (omega (arith, s .pre), omega (arith, s .pre)))
+    let v = self-visits _ _ _ (s .pre .0 .0) (open-count _ _ refl) in
+    ((w .triples, omega arith, w .at-most, kept-of _ _ v (s .args .points .now) (s .args .marks .now) _ (s .pre .0 .1)), room-of _ _ v (s .args .points .now) (s .args .marks .now) (omega (arith, s .pre), omega (arith, s .pre)))
 
 normalize-points-requires : tie.Need-normalize-points-requires
 normalize-points-requires c κs = search needs

@@ -1,6 +1,6 @@
 -- What the pairs of two accepted strings keep is written. Assumes nothing.
 use Rattle.arcstring.proofs.Checks.{stored-whole, stored-some}
-use Rattle.arcstring.proofs.Marks.{room-of, written-of}
+use Rattle.arcstring.proofs.Marks.{room-of, kept-of, written-of}
 use Rattle.arcstring.proofs.Visits.{two-visits}
 use borrow.Author.Needs.{needs}
 use Rattle.arcstring.proofs.listing.list_two.Statement.{statement}
@@ -17,7 +17,8 @@ list-between-requires c κs = let s = c .before .before .before .before .before 
     let p = s .pre .0 in
     let u = stored-whole _ (p .0) in
     let w = stored-whole _ (p .1) in
-    ((u .triples, c .before .before .before .leg-count .ensures .1, w .triples, c .before .before .leg-count2 .ensures .1), room-of _ _ (two-visits _ _ _ _ _ _ (p .0) (c .before .before .before .leg-count .ensures .0) (p .1) (c .before .before .leg-count2 .ensures .0)) (s .args .points .now) (s .args .marks .now) (s .pre .1))
+    let v = two-visits _ _ _ _ _ _ (p .0) (c .before .before .before .leg-count .ensures .0) (p .1) (c .before .before .leg-count2 .ensures .0) in
+    ((u .triples, c .before .before .before .leg-count .ensures .1, w .triples, c .before .before .leg-count2 .ensures .1, kept-of _ _ v (s .args .points .now) (s .args .marks .now) _ (p .2)), room-of _ _ v (s .args .points .now) (s .args .marks .now) (s .pre .1))
 
 same-length : tie.Need-same-length
 same-length c = search needs

@@ -6,7 +6,7 @@ use Rattle.arcstring.specs.Plane.{planeLeg}
 use Rattle.arcstring.proofs.Classes.{plane-again, tested-pair}
 use Rattle.arcstring.specs.Tally.{rowPairs}
 use Rattle.arcstring.proofs.Rows.{row-next, row-none}
-use Rattle.arcstring.proofs.Marks.{WritesSame, nothing-written, room-left, written-on, all-written}
+use Rattle.arcstring.proofs.Marks.{WritesSame, nothing-written, none-keeps-none, room-left, written-on, all-written}
 use Rattle.arcstring.proofs.tally.list_row.Statement.{statement}
 use Rattle.arcstring.proofs.tally.list_row.Tie as tie
 
@@ -49,7 +49,7 @@ same-length-2 : tie.Need-same-length-2 Inv-loop μ-loop
 same-length-2 c = c .before .loop .inv .marks-length
 
 returns : tie.Need-returns Inv-loop μ-loop
-returns c = all-written _ _ _ _ (c .before .before .before .before .before .pre .1) _ _ _ _ (row-none _ _ _ _ (c .loop-test .left)) (c .before .loop .inv)
+returns c = all-written _ _ _ _ (c .before .before .before .before .before .pre .1) _ _ _ _ (none-keeps-none _ (row-none _ _ _ _ (c .loop-test .left))) (c .before .loop .inv)
 
 pub list-row-spec : {M : Type 1} → statement M
 list-row-spec =
