@@ -8,6 +8,7 @@ use Prim.Native.Nat.{ℕ, zero, suc, _*_}
 use native.Mathlib.Omega.{arith}
 use lib.ListN.{length}
 use lib.Dec.{eqb}
+use lib.Ieee.{Float}
 use Rattle.sphericalpoint.specs.declared.SphericalPoint.{SphericalPoint}
 use Rattle.sphericalpoint.specs.Point.{normalizedUnlessShort}
 use Rattle.arcstring.specs.declared.crossing.Pair.{Pair}
@@ -35,6 +36,18 @@ module _ {A : Type 0} where
 pub in-room-is : (l k : Listing) (p m : ℕ) → inRoom l p m ≡ answered k → l ≡ k
 unfolding inRoom
 in-room-is l k p m = answered-is (roomCheck (3 * length (l .marks)) p) (roomCheck (length (l .marks)) m) l k
+
+-- the counting call and the listing give the same counts
+pub listing-counts-agree : (a : List Float) (aClosed : Bool) (b : List Float) (bClosed : Bool) (p m : ℕ) (l : Listing) → crossings a aClosed b bClosed p m ≡ answered l
+    → counted a aClosed b bClosed ≡ answered (l .counts)
+unfolding crossings counted listingOf
+listing-counts-agree a aClosed b bClosed p m l = go (visited a aClosed b bClosed) (storedCheck a) (storedCheck b)
+  where
+    go : (ps : List Pair) (n k : ℕ) → unlessRefused n (unlessRefused k (inRoom (listingOf ps) p m)) ≡ answered l
+        → unlessRefused n (unlessRefused k (answered (countsOf ps))) ≡ answered (l .counts)
+    go ps zero zero h = ap (λ (x : Listing). answered (x .counts)) (in-room-is (listingOf ps) l p m h)
+    go ps zero (suc k) h = absurd (let z : _≡_ {A = ℕ} 0 1 = cc in omega arith)
+    go ps (suc n) k h = absurd (let z : _≡_ {A = ℕ} 0 1 = cc in omega arith)
 
 -- ---- a string's vertices moved, or left where the move is refused
 
