@@ -1,4 +1,4 @@
-/* Great-circle strings: building, walking, crossing and counting them.
+/* Great-circle strings: building, walking, crossing, counting, comparing and cutting them.
  *
  * A list of points is flat: three doubles a point (x, y, z), each from -1 to 1; its length is in doubles. A string is
  * its list of vertices and a flag: 0 is open, anything else closed. A leg by itself is six doubles: start, then end.
@@ -7,11 +7,14 @@
  *
  *     1  a list is not whole triples, or a string has no vertex
  *     2  fewer than two points to build from; the midpoints of an open string of one vertex
- *     3  a list has more than 1,024 points
+ *     3  a list has more than 1,024 points, or a result after an insertion or a cut, all pieces together
  *     4  a coordinate is NaN, infinite, or outside -1 to 1
+ *     5  simplifying removes past the end: the published Rust panics there
+ *     6  the last leg of a closed string in arcstring_overlaps: the published Rust panics there
  *     7  the answer is longer than a buffer lent for it
  *
- * The checks run in the order of the numbers within a list, and the first list comes before the second; 7 comes last.
+ * The checks run in the order of the numbers within a list, and the first list comes before the second, then points to insert
+ * or to split at; then the 3 of a result, 5 and 6; 7 comes last.
  * Past an answer a buffer keeps what it held. What is lent for results, buffers and single places alike, may not overlap
  * anything else that is handed in.
  */
@@ -127,6 +130,44 @@ uint32_t arcstring_turn_orientations(const double *v, size_t v_len, uint8_t clos
 
 /* The midpoint of each leg. Refuses by 1, 2 for an open string of one vertex, 3, 4 and 7. */
 uint32_t arcstring_midpoints(const double *v, size_t v_len, uint8_t closed, double *out, size_t out_len, size_t *count);
+
+/* ---- Strings changed. A simplified string, or one with vertices inserted, keeps its flag and its near list. */
+
+/* The string without the vertices that lie along it, in rounds, as the source judges them. Refuses by 1, 3, 4, 5 and 7. An
+ * open string never gets 5. */
+uint32_t arcstring_simplify(const double *v, size_t v_len, uint8_t closed, double *out, size_t out_len, size_t *count);
+
+/* The string with each point put in before the start of every leg that it is along, as arcstring_xyzs_coplanar(start, point,
+ * end) has it. The points are used as given, not normalised; there may be none. Refuses by 1, 3 and 4 of the string, then of
+ * the points, by 3 where an insertion makes more than 1,024 vertices, and by 7. */
+uint32_t arcstring_insert_vertices(const double *v, size_t v_len, uint8_t closed,
+                                   const double *points, size_t points_len, double *out, size_t out_len, size_t *count);
+
+/* A leg cut at points: each point that is along a piece and equal to neither of its ends makes it the piece up to the point,
+ * and puts a piece of point, point after it. `pieces` is how many there are, six doubles each, or 0 for uncut, which writes
+ * nothing. Refuses by 4 of the leg, by 1, 3 and 4 of the points, by 3 where a cut makes more than 512 pieces, and by 7. */
+uint32_t arcstring_split_leg(const double leg[6], const double *points, size_t points_len, double *out, size_t out_len,
+                             size_t *pieces);
+
+/* A string cut at points. The pieces stand one after another in `out`; counts[k] is how many vertices piece k has, flags[k]
+ * is 1 where it is closed and 0 where it is open. Each is built anew, and its near list is its vertices. `pieces` is how many
+ * there are, or 0 for uncut, which writes nothing. Refuses by 1, 3 and 4 of the string, then of the points, by 3 where after a
+ * cut all pieces together have more than 1,024 vertices, and by 7 where one of the three buffers is too short. */
+uint32_t arcstring_split(const double *v, size_t v_len, uint8_t closed, const double *points, size_t points_len,
+                         double *out, size_t out_len, size_t *counts, size_t counts_len, uint8_t *flags, size_t flags_len,
+                         size_t *pieces);
+
+/* Whether two strings are equal by arcstring_eq, or once copies of them are simplified. Refuses as arcstring_eq does, and by 5
+ * where it comes to simplify a copy that gets it. */
+uint32_t arcstring_equals(const double *a, size_t a_len, const double *a_near, size_t a_near_len, uint8_t a_closed,
+                          const double *b, size_t b_len, const double *b_near, size_t b_near_len, uint8_t b_closed,
+                          uint8_t *yes);
+
+/* Whether simplified copies of two strings are equal, neither string is within the other, and a leg of the first has both
+ * ends along the second. Refuses as arcstring_equals does, and by 6 where it comes to the last leg of a closed first string. */
+uint32_t arcstring_overlaps(const double *a, size_t a_len, const double *a_near, size_t a_near_len, uint8_t a_closed,
+                            const double *b, size_t b_len, const double *b_near, size_t b_near_len, uint8_t b_closed,
+                            uint8_t *yes);
 
 #ifdef __cplusplus
 }

@@ -30,6 +30,12 @@ mod c {
         pub fn arcstring_contains(a: *const f64, an: usize, near: *const f64, near_n: usize, ac: u8, b: *const f64, bn: usize, yes: *mut u8) -> u32;
         pub fn arcstring_turn_orientations(v: *const f64, n: usize, closed: u8, out: *mut f64, room: usize, count: *mut usize) -> u32;
         pub fn arcstring_midpoints(v: *const f64, n: usize, closed: u8, out: *mut f64, room: usize, count: *mut usize) -> u32;
+        pub fn arcstring_simplify(v: *const f64, n: usize, closed: u8, out: *mut f64, room: usize, count: *mut usize) -> u32;
+        pub fn arcstring_insert_vertices(v: *const f64, n: usize, closed: u8, points: *const f64, points_n: usize, out: *mut f64, room: usize, count: *mut usize) -> u32;
+        pub fn arcstring_split_leg(leg: *const f64, points: *const f64, points_n: usize, out: *mut f64, room: usize, pieces: *mut usize) -> u32;
+        pub fn arcstring_split(v: *const f64, n: usize, closed: u8, points: *const f64, points_n: usize, out: *mut f64, room: usize, counts: *mut usize, counts_room: usize, flags: *mut u8, flags_room: usize, pieces: *mut usize) -> u32;
+        pub fn arcstring_equals(a: *const f64, an: usize, near: *const f64, near_n: usize, ac: u8, b: *const f64, bn: usize, b_near: *const f64, b_near_n: usize, bc: u8, yes: *mut u8) -> u32;
+        pub fn arcstring_overlaps(a: *const f64, an: usize, near: *const f64, near_n: usize, ac: u8, b: *const f64, bn: usize, b_near: *const f64, b_near_n: usize, bc: u8, yes: *mut u8) -> u32;
         pub fn arcstring_same_side(ax: f64, ay: f64, az: f64, bx: f64, by: f64, bz: f64, v: *const f64, n: usize, closed: u8, yes: *mut u8) -> u32;
     }
 }
@@ -202,6 +208,14 @@ pub fn crosses(a: &Stored, b: &Stored) -> Left {
     of_two(c::arcstring_crosses, a, b)
 }
 
+pub fn equals(a: &Stored, b: &Stored) -> Left {
+    of_two(c::arcstring_equals, a, b)
+}
+
+pub fn overlaps(a: &Stored, b: &Stored) -> Left {
+    of_two(c::arcstring_overlaps, a, b)
+}
+
 pub fn within(a: &[f64], b: &Stored) -> Left {
     let mut yes = BLANK_BYTE;
     let n = unsafe { c::arcstring_within(a.as_ptr(), a.len(), b.vertices.as_ptr(), b.vertices.len(), b.near.as_ptr(), b.near.len(), b.flag, &mut yes) };
@@ -227,4 +241,43 @@ pub fn midpoints(v: &[f64], closed: u8, room: usize) -> Left {
     let (mut out, mut count) = (blank(room), BLANK_COUNT as usize);
     let n = unsafe { c::arcstring_midpoints(v.as_ptr(), v.len(), closed, out.as_mut_ptr(), room, &mut count) };
     left(n, &out, &[], &[count as u64])
+}
+
+pub fn simplify(v: &[f64], closed: u8, room: usize) -> Left {
+    let (mut out, mut count) = (blank(room), BLANK_COUNT as usize);
+    let n = unsafe { c::arcstring_simplify(v.as_ptr(), v.len(), closed, out.as_mut_ptr(), room, &mut count) };
+    left(n, &out, &[], &[count as u64])
+}
+
+pub fn insert_vertices(v: &[f64], closed: u8, points: &[f64], room: usize) -> Left {
+    let (mut out, mut count) = (blank(room), BLANK_COUNT as usize);
+    let n = unsafe { c::arcstring_insert_vertices(v.as_ptr(), v.len(), closed, points.as_ptr(), points.len(), out.as_mut_ptr(), room, &mut count) };
+    left(n, &out, &[], &[count as u64])
+}
+
+pub fn split_leg(leg: &[f64; 6], points: &[f64], room: usize) -> Left {
+    let (mut out, mut pieces) = (blank(room), BLANK_COUNT as usize);
+    let n = unsafe { c::arcstring_split_leg(leg.as_ptr(), points.as_ptr(), points.len(), out.as_mut_ptr(), room, &mut pieces) };
+    left(n, &out, &[], &[pieces as u64])
+}
+
+/// How many elements each of the three buffers of a split holds.
+#[derive(Clone, Copy, Debug)]
+pub struct Rooms {
+    pub floats: usize,
+    pub counts: usize,
+    pub flags: usize,
+}
+
+pub fn split(v: &[f64], closed: u8, points: &[f64], room: Rooms) -> Left {
+    let (mut out, mut counts, mut flags) = (blank(room.floats), vec![BLANK_COUNT as usize; room.counts], vec![BLANK_BYTE; room.flags]);
+    let mut pieces = BLANK_COUNT as usize;
+    let n = unsafe {
+        c::arcstring_split(
+            v.as_ptr(), v.len(), closed, points.as_ptr(), points.len(), out.as_mut_ptr(), room.floats, counts.as_mut_ptr(), room.counts,
+            flags.as_mut_ptr(), room.flags, &mut pieces,
+        )
+    };
+    let numbers: Vec<u64> = std::iter::once(pieces).chain(counts).map(|n| n as u64).collect();
+    left(n, &out, &flags, &numbers)
 }

@@ -12,15 +12,15 @@ use sphersgeo::sphericalpoint::MultiSphericalPoint;
 
 // ---- document 01's table
 
-fn outside(list: &[f64]) -> bool {
+pub fn outside(list: &[f64]) -> bool {
     list.iter().any(|x| !(-1.0..=1.0).contains(x))
 }
 
-fn first(checks: &[(bool, u32)]) -> u32 {
+pub fn first(checks: &[(bool, u32)]) -> u32 {
     checks.iter().find(|c| c.0).map_or(0, |c| c.1)
 }
 
-fn stored_refusal(v: &[f64]) -> u32 {
+pub fn stored_refusal(v: &[f64]) -> u32 {
     first(&[(v.len() % 3 != 0 || v.is_empty(), 1), (v.len() > 3072, 3), (outside(v), 4)])
 }
 
@@ -28,24 +28,24 @@ fn build_refusal(v: &[f64]) -> u32 {
     first(&[(v.len() % 3 != 0, 1), (v.len() < 6, 2), (v.len() > 3072, 3), (outside(v), 4)])
 }
 
-fn points_refusal(list: &[f64]) -> u32 {
+pub fn points_refusal(list: &[f64]) -> u32 {
     first(&[(outside(list), 4)])
 }
 
-fn in_turn(numbers: &[u32]) -> u32 {
+pub fn in_turn(numbers: &[u32]) -> u32 {
     numbers.iter().copied().find(|n| *n != 0).unwrap_or(0)
 }
 
 // ---- buffers
 
 /// the answer at the start of a buffer, and the rest as it came
-fn over<T: Copy>(blank: T, room: usize, answer: &[T]) -> Vec<T> {
+pub fn over<T: Copy>(blank: T, room: usize, answer: &[T]) -> Vec<T> {
     let mut out = vec![blank; room];
     out[..answer.len()].copy_from_slice(answer);
     out
 }
 
-fn blanks(number: u32, floats: usize, bytes: usize, numbers: usize) -> Left {
+pub fn blanks(number: u32, floats: usize, bytes: usize, numbers: usize) -> Left {
     Left { number, floats: bits(&vec![BLANK; floats]), bytes: vec![BLANK_BYTE; bytes], numbers: vec![BLANK_COUNT; numbers] }
 }
 
@@ -58,7 +58,7 @@ pub fn triples(v: &[f64]) -> Vec<Xyz> {
 }
 
 /// a stored string, its fields as given
-fn stored(v: &[f64], closed: bool) -> ArcString {
+pub fn stored(v: &[f64], closed: bool) -> ArcString {
     let xyzs = triples(v);
     let kdtree = kiddo::ImmutableKdTree::new_from_slice(&xyzs).unwrap();
     ArcString { points: MultiSphericalPoint { xyzs, kdtree }, closed }
@@ -66,7 +66,7 @@ fn stored(v: &[f64], closed: bool) -> ArcString {
 
 // ---- single points
 
-fn verdict(number: u32, yes: impl Fn() -> bool) -> Left {
+pub fn verdict(number: u32, yes: impl FnOnce() -> bool) -> Left {
     let mut left = blanks(number, 0, 1, 0);
     if number == 0 {
         left.bytes = vec![yes() as u8];
@@ -92,7 +92,7 @@ pub fn point(p: Xyz) -> Left {
 
 // ---- strings
 
-fn written(number: u32, answer: &[f64], room: usize, flag: Option<bool>) -> Left {
+pub fn written(number: u32, answer: &[f64], room: usize, flag: Option<bool>) -> Left {
     let number = in_turn(&[number, first(&[(number == 0 && answer.len() > room, 7)])]);
     let mut left = blanks(number, room, flag.is_some() as usize, 1);
     if number == 0 {
@@ -213,7 +213,7 @@ fn listing(number: u32, pairs: &[(Leg, Leg)], kept: &[Xyz], room: usize, marks_r
     left
 }
 
-fn leg_of(six: &[f64; 6]) -> Leg {
+pub fn leg_of(six: &[f64; 6]) -> Leg {
     let p = triples(six);
     (p[0], p[1])
 }
@@ -288,13 +288,13 @@ pub fn same_side(a: Xyz, b: Xyz, v: &[f64], closed: bool) -> Left {
 
 // ---- on a string, relations, measures
 
-fn with_near(s: &Stored) -> ArcString {
+pub fn with_near(s: &Stored) -> ArcString {
     let mut string = stored(s.vertices, s.flag != 0);
     string.points.kdtree = kiddo::ImmutableKdTree::new_from_slice(&triples(s.near)).unwrap();
     string
 }
 
-fn string_refusal(s: &Stored) -> u32 {
+pub fn string_refusal(s: &Stored) -> u32 {
     in_turn(&[stored_refusal(s.vertices), stored_refusal(s.near)])
 }
 

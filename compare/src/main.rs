@@ -2,7 +2,9 @@
 //! A line for each kind of case says how often it came; a difference prints its input and ends the run with 1.
 mod bench;
 mod calls;
+mod edits;
 mod expected;
+mod expected_edit;
 mod random;
 mod roots;
 mod strings;
@@ -69,6 +71,10 @@ fn main() {
     let n = size("strings", 600_000);
     if n > 0 {
         same &= run("strings", n, strings::run);
+    }
+    let n = size("edits", 400_000);
+    if n > 0 {
+        same &= run("edits", n, edits::run);
     }
     if words.is_empty() || words.iter().any(|w| w == "bench") {
         bench::run();

@@ -5,14 +5,18 @@ use crate::calls::{self, Left, Stored};
 use crate::expected;
 use crate::random::{Points, Xyz};
 
-struct Inputs {
-    points: Points,
+pub struct Inputs {
+    pub points: Points,
     /// strings of up to 1,024 vertices now and then
-    long: bool,
+    pub long: bool,
 }
 
 impl Inputs {
-    fn below(&mut self, n: u64) -> u64 {
+    pub fn new(seed: u64) -> Self {
+        Self { points: Points::new(seed), long: false }
+    }
+
+    pub fn below(&mut self, n: u64) -> u64 {
         self.points.random.below(n)
     }
 
@@ -29,7 +33,7 @@ impl Inputs {
     }
 
     /// a list of points, one in eight damaged
-    fn string(&mut self) -> Vec<f64> {
+    pub fn string(&mut self) -> Vec<f64> {
         let n = self.length();
         let mut v: Vec<f64> = (0..n).flat_map(|_| self.points.point()).collect();
         if self.below(4) == 0 {
@@ -56,7 +60,7 @@ impl Inputs {
     }
 
     /// a near list: the vertices, without some of them, other points, or a damaged one
-    fn near(&mut self, v: &[f64]) -> Vec<f64> {
+    pub fn near(&mut self, v: &[f64]) -> Vec<f64> {
         match self.below(8) {
             0 => self.string(),
             1 => v.iter().copied().take(3 * (1 + self.below(v.len() as u64 / 3 + 1)) as usize).collect(),
@@ -72,17 +76,17 @@ impl Inputs {
         p
     }
 
-    fn leg(&mut self) -> [f64; 6] {
+    pub fn leg(&mut self) -> [f64; 6] {
         let (a, b) = (self.single(), self.single());
         [a[0], a[1], a[2], b[0], b[1], b[2]]
     }
 
-    fn flag(&mut self) -> u8 {
+    pub fn flag(&mut self) -> u8 {
         self.points.random.of(&[0, 0, 1, 1, 2, 255])
     }
 
     /// room around a length
-    fn room(&mut self, n: usize) -> usize {
+    pub fn room(&mut self, n: usize) -> usize {
         match self.below(6) {
             0 => n.saturating_sub(1 + self.below(3) as usize),
             1 => 0,
@@ -92,16 +96,16 @@ impl Inputs {
     }
 }
 
-fn show(v: &[f64]) -> String {
+pub fn show(v: &[f64]) -> String {
     v.iter().map(|x| format!("{:016X}", x.to_bits())).collect::<Vec<_>>().join(" ")
 }
 
-fn check(tally: &mut Tally, call: &str, detail: &str, ours: Left, theirs: Left, input: impl Fn() -> String) {
+pub fn check(tally: &mut Tally, call: &str, detail: &str, ours: Left, theirs: Left, input: impl Fn() -> String) {
     let kind = if theirs.number == 0 { format!("{call}{detail}") } else { format!("{call}: refusal {}", theirs.number) };
     tally.compare(&kind, ours == theirs, || format!("{call} {}\n  ours     {ours:?}\n  expected {theirs:?}", input()));
 }
 
-fn answer(left: &Left) -> &'static str {
+pub fn answer(left: &Left) -> &'static str {
     match left.bytes.first() {
         Some(1) => ": yes",
         Some(0) => ": no",
@@ -260,7 +264,7 @@ fn symmetry(tally: &mut Tally, i: &mut Inputs) {
 }
 
 pub fn run(tally: &mut Tally, n: u64) {
-    let mut i = Inputs { points: Points::new(3), long: false };
+    let mut i = Inputs::new(3);
     while tally.done < n {
         i.long = i.below(500) == 0;
         singles(tally, &mut i);

@@ -3,7 +3,7 @@ use mathlib.Core.Path.{_≡_, refl, sym, ap, _∙_}
 use Prim.Native.Nat.{ℕ, zero, suc}
 use native.Mathlib.Omega.{arith}
 use Rattle.arcstring.specs.declared.check.Refusal.{Refusal}
-use Rattle.arcstring.specs.declared.check.Refusal.the-variants.{NotTriples, TooFewPoints, TooManyPoints, OutOfRange, NoRoom}
+use Rattle.arcstring.specs.declared.check.Refusal.the-variants.{NotTriples, TooFewPoints, TooManyPoints, OutOfRange, RemovesPastEnd, ReadsPastEnd, NoRoom}
 use Rattle.arcstring.specs.declared.check.Checked.{Checked}
 use Rattle.arcstring.specs.declared.check.Checked.the-variants.{Accepted, Refused}
 use Rattle.arcstring.specs.Check.{checkNumber}
@@ -14,6 +14,8 @@ at-refusal NotTriples x = refl
 at-refusal TooFewPoints x = refl
 at-refusal TooManyPoints x = refl
 at-refusal OutOfRange x = refl
+at-refusal RemovesPastEnd x = refl
+at-refusal ReadsPastEnd x = refl
 at-refusal NoRoom x = refl
 
 pub refuse : {A : Type 0} (e : Refusal) (n : ℕ) (x : Answer A) → n ≡ refusalNumber e → refused (refusalNumber e) ≡ unlessRefused n x
@@ -47,6 +49,8 @@ refusal-first NotTriples n = refl
 refusal-first TooFewPoints n = refl
 refusal-first TooManyPoints n = refl
 refusal-first OutOfRange n = refl
+refusal-first RemovesPastEnd n = refl
+refusal-first ReadsPastEnd n = refl
 refusal-first NoRoom n = refl
 
 -- ---- the same, for code that took a check's answer apart

@@ -4,7 +4,7 @@ use mathlib.Core.List.{List, _++_}
 use Prim.Native.Nat.{ℕ, zero, suc}
 use lib.ListN.{length, drop}
 use Rattle.arcstring.specs.declared.check.Refusal.{Refusal}
-use Rattle.arcstring.specs.declared.check.Refusal.the-variants.{NotTriples, TooFewPoints, TooManyPoints, OutOfRange, NoRoom}
+use Rattle.arcstring.specs.declared.check.Refusal.the-variants.{NotTriples, TooFewPoints, TooManyPoints, OutOfRange, RemovesPastEnd, ReadsPastEnd, NoRoom}
 
 -- the numbers of document 01's table
 abbrev pub refusalNumber : Refusal → ℕ
@@ -12,6 +12,8 @@ refusalNumber NotTriples = 1
 refusalNumber TooFewPoints = 2
 refusalNumber TooManyPoints = 3
 refusalNumber OutOfRange = 4
+refusalNumber RemovesPastEnd = 5
+refusalNumber ReadsPastEnd = 6
 refusalNumber NoRoom = 7
 
 pub data Answer (A : Type 0) : Type 0 where
@@ -48,3 +50,8 @@ module _ {A B : Type 0} where
   abbrev pub mapAnswer : (A → B) → Answer A → Answer B
   mapAnswer f (refused n) = refused n
   mapAnswer f (answered x) = answered (f x)
+
+  -- what follows an answer; a refusal stays
+  abbrev pub andThen : Answer A → (A → Answer B) → Answer B
+  andThen (refused n) f = refused n
+  andThen (answered x) f = f x

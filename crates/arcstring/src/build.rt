@@ -32,7 +32,7 @@ pub(crate) fn normalize_points(out: &mut [f64], n: usize)
 }
 
 // Whether the first and the last of `n` points meet once they are normalised.
-fn ends_meet(v: &[f64], n: usize) -> bool
+pub fn ends_meet(v: &[f64], n: usize) -> bool
     requires { ⌜ (length (now v) ≡ 3 * n) × (1 ≤ n) ⌝ }
     ensures { λ r. ⌜ r ≡ endsMeet (normalizedAll (points (now (v .entry)))) ⌝ }
 {
@@ -42,7 +42,7 @@ fn ends_meet(v: &[f64], n: usize) -> bool
 }
 
 // The first `m` points of `v`, normalised once: an open string's vertices.
-fn build_open(v: &[f64], m: usize, out: &mut [f64])
+pub fn build_open(v: &[f64], m: usize, out: &mut [f64])
     requires { ⌜ (3 * m ≤ length (now v)) × (3 * m ≤ length (now out)) ⌝ }
     ensures { λ _. ⌜ now (out .exit) ≡ flat (normalizedAll (points (take (3 * m) (now (v .entry))))) ++ drop (3 * m) (now (out .entry)) ⌝ }
 {
@@ -51,7 +51,7 @@ fn build_open(v: &[f64], m: usize, out: &mut [f64])
 }
 
 // The first `m` points of `v`, normalised twice: a closed string's vertices.
-fn build_closed(v: &[f64], m: usize, out: &mut [f64])
+pub fn build_closed(v: &[f64], m: usize, out: &mut [f64])
     requires { ⌜ (3 * m ≤ length (now v)) × (3 * m ≤ length (now out)) ⌝ }
     ensures { λ _. ⌜ now (out .exit) ≡ flat (normalizedAll (normalizedAll (points (take (3 * m) (now (v .entry)))))) ++ drop (3 * m) (now (out .entry)) ⌝ }
 {

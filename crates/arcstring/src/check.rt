@@ -1,6 +1,6 @@
 // What is refused: the checks of document 01's table, in the order of its numbers.
 ghost use mathlib.Core.Path.{_≡_};
-ghost use Rattle.arcstring.specs.Answer.{firstOf};
+ghost use Rattle.arcstring.specs.Answer.{firstOf, refusalNumber};
 ghost use Rattle.arcstring.specs.Check.{checkNumber, inRange, allInRange, listCheck, storedCheck, buildCheck, pointCheck, roomCheck};
 use sphericalpoint::SphericalPoint;
 
@@ -10,7 +10,24 @@ pub enum Refusal {
     TooFewPoints,
     TooManyPoints,
     OutOfRange,
+    RemovesPastEnd,
+    ReadsPastEnd,
     NoRoom,
+}
+
+// Document 01's number of a refusal.
+pub fn number(e: Refusal) -> u32
+    ensures { λ r. ⌜ r ≡ refusalNumber e ⌝ }
+{
+    match e {
+        Refusal::NotTriples => 1,
+        Refusal::TooFewPoints => 2,
+        Refusal::TooManyPoints => 3,
+        Refusal::OutOfRange => 4,
+        Refusal::RemovesPastEnd => 5,
+        Refusal::ReadsPastEnd => 6,
+        Refusal::NoRoom => 7,
+    }
 }
 
 // What a check answers.
@@ -45,7 +62,7 @@ fn all_in_range(list: &[f64]) -> bool
 }
 
 // The checks of any list in number order; `few` is what is asked of how few points there are.
-pub(crate) fn check_list(list: &[f64], few: Checked) -> Checked
+pub fn check_list(list: &[f64], few: Checked) -> Checked
     ensures { λ r. ⌜ checkNumber r ≡ listCheck (checkNumber few) (now (list .entry)) ⌝ }
 {
     if list.len() % 3 != 0 {
@@ -65,7 +82,7 @@ pub(crate) fn check_list(list: &[f64], few: Checked) -> Checked
 }
 
 // The vertices or the near list of a stored string.
-pub(crate) fn check_stored(list: &[f64]) -> Checked
+pub fn check_stored(list: &[f64]) -> Checked
     ensures { λ r. ⌜ checkNumber r ≡ storedCheck (now (list .entry)) ⌝ }
 {
     if list.len() == 0 {
@@ -76,7 +93,7 @@ pub(crate) fn check_stored(list: &[f64]) -> Checked
 }
 
 // A list to build from.
-pub(crate) fn check_build(list: &[f64]) -> Checked
+pub fn check_build(list: &[f64]) -> Checked
     ensures { λ r. ⌜ checkNumber r ≡ buildCheck (now (list .entry)) ⌝ }
 {
     if list.len() / 3 < 2 {
@@ -86,7 +103,7 @@ pub(crate) fn check_build(list: &[f64]) -> Checked
     }
 }
 
-pub(crate) fn check_point(p: SphericalPoint) -> Checked
+pub fn check_point(p: SphericalPoint) -> Checked
     ensures { λ r. ⌜ checkNumber r ≡ pointCheck p ⌝ }
 {
     if in_range(p.x) & in_range(p.y) & in_range(p.z) {
@@ -97,7 +114,7 @@ pub(crate) fn check_point(p: SphericalPoint) -> Checked
 }
 
 // Whether an answer of `needed` elements fits a buffer of `lent`.
-pub(crate) fn check_room(needed: usize, lent: usize) -> Checked
+pub fn check_room(needed: usize, lent: usize) -> Checked
     ensures { λ r. ⌜ checkNumber r ≡ roomCheck needed lent ⌝ }
 {
     if lent < needed {
@@ -108,7 +125,7 @@ pub(crate) fn check_room(needed: usize, lent: usize) -> Checked
 }
 
 // The first of two checks that refuses.
-pub(crate) fn first_of(first: Checked, second: Checked) -> Checked
+pub fn first_of(first: Checked, second: Checked) -> Checked
     ensures { λ r. ⌜ checkNumber r ≡ firstOf (checkNumber first) (checkNumber second) ⌝ }
 {
     match first {

@@ -28,7 +28,7 @@ pub enum Crossed {
     Refused(Refusal),
 }
 
-pub(crate) fn start_of(arc: [[f64; 3]; 2]) -> SphericalPoint
+pub fn start_of(arc: [[f64; 3]; 2]) -> SphericalPoint
     ensures { λ r. ⌜ r ≡ legOf arc .from ⌝ }
 {
     SphericalPoint {
@@ -38,7 +38,7 @@ pub(crate) fn start_of(arc: [[f64; 3]; 2]) -> SphericalPoint
     }
 }
 
-pub(crate) fn end_of(arc: [[f64; 3]; 2]) -> SphericalPoint
+pub fn end_of(arc: [[f64; 3]; 2]) -> SphericalPoint
     ensures { λ r. ⌜ r ≡ legOf arc .to ⌝ }
 {
     SphericalPoint {
@@ -259,7 +259,7 @@ fn pair_of(arc_a: [[f64; 3]; 2], arc_b: [[f64; 3]; 2]) -> Pair
 }
 
 // A leg by itself: 4 for its start or its end.
-pub(crate) fn check_leg(arc: [[f64; 3]; 2]) -> Checked
+pub fn check_leg(arc: [[f64; 3]; 2]) -> Checked
     ensures { λ r. ⌜ checkNumber r ≡ legCheck (legOf arc) ⌝ }
 {
     check::first_of(

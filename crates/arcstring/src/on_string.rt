@@ -56,7 +56,7 @@ pub(crate) fn near_some(p: SphericalPoint, near: &[f64], n: usize) -> bool
 }
 
 // The point stands in the second place of the source's test, which seeks the leg's end between start and point.
-fn along_leg(p: SphericalPoint, arc: [[f64; 3]; 2]) -> bool
+pub fn along_leg(p: SphericalPoint, arc: [[f64; 3]; 2]) -> bool
     ensures { λ r. ⌜ r ≡ alongLeg p (legOf arc) ⌝ }
 {
     sphericalpoint::xyzs_coplanar(crossing::start_of(arc), p, crossing::end_of(arc))
@@ -78,7 +78,7 @@ fn along_some_leg(p: SphericalPoint, v: &[f64], n: usize, l: usize) -> bool
 }
 
 // Near an entry of the near list, or along a leg.
-pub(crate) fn along_string(p: SphericalPoint, v: &[f64], near: &[f64], closed: bool) -> bool
+pub fn along_string(p: SphericalPoint, v: &[f64], near: &[f64], closed: bool) -> bool
     requires { ⌜ (storedCheck (now v) ≡ 0) × (storedCheck (now near) ≡ 0) ⌝ }
     ensures { λ r. ⌜ r ≡ alongString p (stored (now (v .entry)) (now (near .entry)) closed) ⌝ }
 {

@@ -18,7 +18,7 @@ use crate::vertex;
 use sphericalpoint::SphericalPoint;
 
 // Whether every vertex of a list is along a string.
-fn all_along(a: &[f64], v: &[f64], near: &[f64], closed: bool) -> bool
+pub fn all_along(a: &[f64], v: &[f64], near: &[f64], closed: bool) -> bool
     requires { ⌜ (storedCheck (now a) ≡ 0) × (storedCheck (now v) ≡ 0) × (storedCheck (now near) ≡ 0) ⌝ }
     ensures { λ r. ⌜ r ≡ allAlong (points (now (a .entry))) (stored (now (v .entry)) (now (near .entry)) closed) ⌝ }
 {
@@ -81,7 +81,7 @@ fn same_boundary(a: &[f64], a_closed: bool, b: &[f64], b_closed: bool) -> bool
 }
 
 // The checks of two strings' lists, in turn.
-fn check_two(a: &[f64], a_near: &[f64], b: &[f64], b_near: &[f64]) -> Checked
+pub fn check_two(a: &[f64], a_near: &[f64], b: &[f64], b_near: &[f64]) -> Checked
     ensures { λ r. ⌜ checkNumber r ≡ firstOf (storedCheck (now (a .entry))) (firstOf (storedCheck (now («a_near» .entry))) (firstOf (storedCheck (now (b .entry))) (storedCheck (now («b_near» .entry))))) ⌝ }
 {
     check::first_of(
@@ -94,7 +94,7 @@ fn check_two(a: &[f64], a_near: &[f64], b: &[f64], b_near: &[f64]) -> Checked
 }
 
 // `==` of two accepted strings.
-fn equal_strings(
+pub fn equal_strings(
     a: &[f64],
     a_near: &[f64],
     a_closed: bool,

@@ -20,7 +20,7 @@ use crate::vertex;
 use sphericalpoint::SphericalPoint;
 
 // How many of the pairs visited so far are in each class, and how many of them are kept.
-pub(crate) struct Tally {
+pub struct Tally {
     pub clean: u64,
     pub end: u64,
     pub grazing: u64,
@@ -40,7 +40,7 @@ pub(crate) fn none() -> Tally
     }
 }
 
-pub(crate) fn counts_of(t: Tally) -> Counts
+pub fn counts_of(t: Tally) -> Counts
     ensures { λ r. ⌜ r ≡ tallyCounts t ⌝ }
 {
     Counts {
@@ -52,7 +52,7 @@ pub(crate) fn counts_of(t: Tally) -> Counts
 }
 
 // How many legs a string of n vertices has.
-pub(crate) fn leg_count(n: usize, closed: bool) -> usize
+pub fn leg_count(n: usize, closed: bool) -> usize
     requires { ⌜ 1 ≤ n ⌝ }
     ensures { λ r. ⌜ (r ≡ legCount n closed) × (r ≤ n) ⌝ }
 {
@@ -70,7 +70,7 @@ fn leg_between(v: &[f64], k: usize, j: usize) -> [[f64; 3]; 2]
 }
 
 // Leg k of n vertices: the last one goes back to vertex 0.
-pub(crate) fn leg_at(v: &[f64], n: usize, k: usize) -> [[f64; 3]; 2]
+pub fn leg_at(v: &[f64], n: usize, k: usize) -> [[f64; 3]; 2]
     requires { ⌜ (length (now v) ≡ 3 * n) × (k < n) ⌝ }
     ensures { λ r. ⌜ legOf r ≡ legAt (now (v .entry)) n k ⌝ }
 {
@@ -158,14 +158,7 @@ pub(crate) fn count_row(
 }
 
 // The first `la` legs of a string against the first `lb` legs of another.
-pub(crate) fn count_between(
-    a: &[f64],
-    na: usize,
-    la: usize,
-    b: &[f64],
-    nb: usize,
-    lb: usize,
-) -> Tally
+pub fn count_between(a: &[f64], na: usize, la: usize, b: &[f64], nb: usize, lb: usize) -> Tally
     requires { ⌜ (length (now a) ≡ 3 * na) × (la ≤ na) × (na ≤ 1024) ⌝ }
     requires { ⌜ (length (now b) ≡ 3 * nb) × (lb ≤ nb) × (nb ≤ 1024) ⌝ }
     ensures { λ r. ⌜ r ≡ tallyOn noTally (pairsBetween (legsFrom (now (a .entry)) 0 la) (legsFrom (now (b .entry)) 0 lb)) ⌝ }

@@ -9,7 +9,7 @@ ghost use Rattle.arcstring.specs.Splice.{splice};
 use sphericalpoint::SphericalPoint;
 
 // Vertex k of a list.
-pub(crate) fn vertex_at(v: &[f64], k: usize) -> SphericalPoint
+pub fn vertex_at(v: &[f64], k: usize) -> SphericalPoint
     requires { ⌜ 3 * k + 3 ≤ length (now v) ⌝ }
     ensures { λ r. ⌜ r ≡ pointAt (now (v .entry)) k ⌝ }
 {
@@ -22,7 +22,7 @@ pub(crate) fn vertex_at(v: &[f64], k: usize) -> SphericalPoint
 }
 
 // A point written as vertex k.
-pub(crate) fn put_vertex(out: &mut [f64], k: usize, p: SphericalPoint)
+pub fn put_vertex(out: &mut [f64], k: usize, p: SphericalPoint)
     requires { ⌜ 3 * k + 3 ≤ length (now out) ⌝ }
     ensures { λ _. ⌜ now (out .exit) ≡ splice (now (out .entry)) (3 * k) (p .x ∷ p .y ∷ p .z ∷ []) ⌝ }
 {
@@ -33,7 +33,7 @@ pub(crate) fn put_vertex(out: &mut [f64], k: usize, p: SphericalPoint)
 }
 
 // `count` vertices of `v` from position `from` on, copied to `out` from position `to` on.
-pub(crate) fn copy_run(v: &[f64], from: usize, count: usize, out: &mut [f64], to: usize)
+pub fn copy_run(v: &[f64], from: usize, count: usize, out: &mut [f64], to: usize)
     requires { ⌜ (3 * (from + count) ≤ length (now v)) × (3 * (to + count) ≤ length (now out)) ⌝ }
     ensures { λ _. ⌜ now (out .exit) ≡ splice (now (out .entry)) (3 * to) (take (3 * count) (drop (3 * from) (now (v .entry)))) ⌝ }
 {

@@ -2,6 +2,7 @@
 use mathlib.Core.Path.{_≡_, refl, ap, _∙_}
 use mathlib.Core.Bool.{Bool}
 use mathlib.Core.List.{List}
+use mathlib.Core.Option.{Option, none, some}
 use Prim.Native.Nat.{ℕ}
 use lib.ListN.{length}
 use lib.Ieee.{Float}
@@ -10,7 +11,8 @@ use Rattle.arcstring.specs.Answer.{Answer, refused, answered, mapAnswer, leaves
 use Rattle.arcstring.specs.Points.{ArcString}
 use Rattle.arcstring.specs.Build.{builtResult}
 use Rattle.arcstring.specs.Listing.{Listing, listedResult, listedFloats, listedBytes}
-use Rattle.arcstring_c.specs.Numbers.{answerNumber, leftIn, flagByte, vertexCount, closedByte, keptCount, listingCounts, listedKept, listedCounts}
+use Rattle.arcstring_edit.specs.SplitLeg.{pieceCount}
+use Rattle.arcstring_c.specs.Numbers.{answerNumber, leftIn, pieceNumber, piecesWritten, flagByte, vertexCount, closedByte, keptCount, listingCounts, listedKept, listedCounts}
 
 -- ---- where the answer b is the answer a
 
@@ -64,6 +66,23 @@ module _ {A : Type 0} (a : Answer (List A)) {b : Answer ℕ} (h : b ≡ mapAnswe
 
   pub written-count : (old : ℕ) {x : ℕ} → x ≡ leftIn (λ (n : ℕ). n) b old → x ≡ leftIn length a old
   written-count old p = place-of length a h (λ (n : ℕ). n) old p
+
+-- pieces that were written
+module _ {A : Type 0} (a : Answer (Option (List A))) {b : Answer (Option ℕ)} (h : b ≡ mapAnswer pieceCount a) where
+  pub pieces-number : {n : ℕ} → n ≡ answerNumber b → n ≡ answerNumber a
+  pieces-number p = number-of pieceCount a h p
+
+  -- how many of them, and 0 for uncut
+  counted-pieces : (x : Option (List A)) → pieceNumber (pieceCount x) ≡ piecesWritten x
+  counted-pieces none = refl
+  counted-pieces (some l) = refl
+
+  same-count : (y : Answer (Option (List A))) (old : ℕ) → leftIn (λ (x : Option (List A)). pieceNumber (pieceCount x)) y old ≡ leftIn piecesWritten y old
+  same-count (refused n) old = refl
+  same-count (answered x) old = counted-pieces x
+
+  pub pieces-count : (old : ℕ) {x : ℕ} → x ≡ leftIn pieceNumber b old → x ≡ leftIn piecesWritten a old
+  pieces-count old p = place-of pieceCount a h pieceNumber old p ∙ same-count a old
 
 -- a listing
 abbrev listedPart : Listing → ℕ × Counts

@@ -1,6 +1,7 @@
 -- The answers of the string layer as C programs get them: a number that is 0 or the refusal's, and results in the places that were lent for them. Definitions only.
 use mathlib.Core.Bool.{Bool, true, false, not}
 use mathlib.Core.List.{List, [], _∷_}
+use mathlib.Core.Option.{Option, none, some}
 use Prim.Native.Nat.{ℕ, _*_}
 use lib.Dec.{eqb}
 use lib.ListN.{length, getD}
@@ -90,6 +91,16 @@ listedKept r = r .0
 
 abbrev pub listedCounts : ℕ × Counts → List ℕ
 listedCounts r = fourCounts (r .1)
+
+-- ---- splits: how many pieces, and 0 for uncut
+
+abbrev pub pieceNumber : Option ℕ → ℕ
+pieceNumber none = 0
+pieceNumber (some n) = n
+
+abbrev pub piecesWritten : {A : Type 0} → Option (List A) → ℕ
+piecesWritten none = 0
+piecesWritten (some l) = length l
 
 -- ---- a run, as the place in the caller's list where it starts and its length, in floats; an empty run starts at 0
 

@@ -5,7 +5,7 @@ ghost use mathlib.Core.Path.{_≡_};
 ghost use Prim.Native.Nat.{_*_, _^_, _<_};
 ghost use lib.Dec.{eqb};
 ghost use lib.ListN.{length};
-ghost use Rattle.arcstring.specs.Answer.{leaves, pick, refusalNumber};
+ghost use Rattle.arcstring.specs.Answer.{leaves, pick};
 ghost use Rattle.arcstring.specs.Points.{point};
 ghost use Rattle.arcstring.specs.Point.{equalPoints, coplanarPoints, builtPoint, decidedAnswer};
 ghost use Rattle.arcstring.specs.Build.{build, buildFlagged, builtFloats};
@@ -14,12 +14,13 @@ ghost use Rattle.arcstring.specs.Crossing.{leg, legOf, arcsCrossing};
 ghost use Rattle.arcstring.specs.Listing.{counted, crossings, legCrossings, selfCrossings, crossesSelf, sameSide, listedAnswer, listedFloats, listedBytes};
 ghost use Rattle.arcstring_c.specs.Numbers.{answerNumber, leftIn, flag, flagByte, threeFloats, legOfSix, classNumber, keptByte, pairPoint, vertexCount, closedByte, fourCounts, keptCount, listingCounts, listedKept, listedCounts, runLength, runStart};
 
+mod edit;
 mod measure;
 mod near;
 
 use arcstring::build::Built;
+use arcstring::check;
 use arcstring::check::Decided;
-use arcstring::check::Refusal;
 use arcstring::crossing::Crossed;
 use arcstring::crossing::Outcome;
 use arcstring::crossing::Pair;
@@ -29,19 +30,6 @@ use arcstring::listing::Listed;
 use arcstring::point::Pointed;
 use arcstring::walk::Written;
 use sphericalpoint::SphericalPoint;
-
-// Document 01's number of a refusal.
-pub(crate) fn number(e: Refusal) -> u32
-    ensures { λ r. ⌜ r ≡ refusalNumber e ⌝ }
-{
-    match e {
-        Refusal::NotTriples => 1,
-        Refusal::TooFewPoints => 2,
-        Refusal::TooManyPoints => 3,
-        Refusal::OutOfRange => 4,
-        Refusal::NoRoom => 7,
-    }
-}
 
 fn byte(yes: bool) -> u8
     ensures { λ r. ⌜ r ≡ flagByte yes ⌝ }
@@ -55,7 +43,7 @@ pub(crate) fn is_closed(closed: u8) -> bool
     closed != 0
 }
 
-fn leg_of(six: &[f64; 6]) -> [[f64; 3]; 2]
+pub(crate) fn leg_of(six: &[f64; 6]) -> [[f64; 3]; 2]
     ensures { λ r. ⌜ legOf r ≡ legOfSix (now (six .entry)) ⌝ }
 {
     [[six[0], six[1], six[2]], [six[3], six[4], six[5]]]
@@ -78,7 +66,7 @@ pub(crate) fn decide(d: Decided, yes: &mut u8) -> u32
     ensures { λ r. ⌜ (r ≡ answerNumber (decidedAnswer d)) × (now (yes .exit) ≡ leftIn flagByte (decidedAnswer d) (now (yes .entry))) ⌝ }
 {
     match d {
-        Decided::Refused(e) => number(e),
+        Decided::Refused(e) => check::number(e),
         Decided::Verdict(b) => {
             *yes = byte(b);
             0
@@ -133,7 +121,7 @@ pub extern "C" fn arcstring_point(x: f64, y: f64, z: f64, out: &mut [f64; 3]) ->
 {
     let r = arcstring::point::point_from(SphericalPoint::new(x, y, z));
     match r {
-        Pointed::Refused(e) => number(e),
+        Pointed::Refused(e) => check::number(e),
         Pointed::Point(p) => {
             put_three(out, p);
             0
@@ -155,7 +143,7 @@ pub extern "C" fn arcstring_build(
 {
     let r = arcstring::build::build(points, out);
     match r {
-        Built::Refused(e) => number(e),
+        Built::Refused(e) => check::number(e),
         Built::String(n, c) => {
             *count = n;
             *closed = byte(c);
@@ -177,7 +165,7 @@ pub extern "C" fn arcstring_build_flagged(
 {
     let r = arcstring::build::build_flagged(points, is_closed(closed), out);
     match r {
-        Built::Refused(e) => number(e),
+        Built::Refused(e) => check::number(e),
         Built::String(n, _) => {
             *count = n;
             0
@@ -193,7 +181,7 @@ pub extern "C" fn arcstring_walk_back(v: &[f64], out: &mut [f64], count: &mut us
 {
     let r = arcstring::walk::walk_back(v, out);
     match r {
-        Written::Refused(e) => number(e),
+        Written::Refused(e) => check::number(e),
         Written::Vertices(n) => {
             *count = n;
             0
@@ -215,7 +203,7 @@ pub extern "C" fn arcstring_restart(
 {
     let r = arcstring::walk::restart(v, is_closed(closed), at, out);
     match r {
-        Written::Refused(e) => number(e),
+        Written::Refused(e) => check::number(e),
         Written::Vertices(n) => {
             *count = n;
             0
@@ -262,7 +250,7 @@ pub extern "C" fn arcstring_pair(
 {
     let r = arcstring::crossing::arcs_crossing(leg_of(a), leg_of(b));
     match r {
-        Crossed::Refused(e) => number(e),
+        Crossed::Refused(e) => check::number(e),
         Crossed::Pair(p) => {
             *class_ = class_number(p);
             *kept = kept_byte(p);
@@ -335,7 +323,7 @@ pub extern "C" fn arcstring_count(
 {
     let r = arcstring::listing::count(a, is_closed(a_closed), b, is_closed(b_closed));
     match r {
-        Counted::Refused(e) => number(e),
+        Counted::Refused(e) => check::number(e),
         Counted::Counts(c) => {
             put_counts(counts, c);
             0
@@ -348,7 +336,7 @@ fn list(r: Listed, kept: &mut usize, counts: &mut [u64; 4]) -> u32
     ensures { λ n. ⌜ (n ≡ answerNumber (listedAnswer r)) × (now (kept .exit) ≡ leftIn listedKept (listedAnswer r) (now (kept .entry))) × (now (counts .exit) ≡ leftIn listedCounts (listedAnswer r) (now (counts .entry))) ⌝ }
 {
     match r {
-        Listed::Refused(e) => number(e),
+        Listed::Refused(e) => check::number(e),
         Listed::Listing(n, c) => {
             *kept = n;
             put_counts(counts, c);

@@ -5,6 +5,7 @@ ghost use Rattle.arcstring.specs.Answer.{leaves};
 ghost use Rattle.arcstring.specs.Walk.{writtenFloats};
 ghost use Rattle.arcstring.specs.Measure.{turnOrientations, midpoints};
 ghost use Rattle.arcstring_c.specs.Numbers.{answerNumber, leftIn, flag};
+use arcstring::check;
 use arcstring::walk::Written;
 
 #[no_mangle]
@@ -20,7 +21,7 @@ pub extern "C" fn arcstring_turn_orientations(
 {
     let r = arcstring::measure::xyzs_turn_orientations(v, crate::is_closed(closed), out);
     match r {
-        Written::Refused(e) => crate::number(e),
+        Written::Refused(e) => check::number(e),
         Written::Vertices(n) => {
             *count = n;
             0
@@ -41,7 +42,7 @@ pub extern "C" fn arcstring_midpoints(
 {
     let r = arcstring::measure::midpoints(v, crate::is_closed(closed), out);
     match r {
-        Written::Refused(e) => crate::number(e),
+        Written::Refused(e) => check::number(e),
         Written::Vertices(n) => {
             *count = n;
             0

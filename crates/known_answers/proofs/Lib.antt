@@ -1,0 +1,2 @@
+-- The twelve known answers, by one proof.
+pub mod TwelveAnswers

@@ -1,0 +1,50 @@
+-- Document 01's twelve known answers: the definitions give them, each computed. Assumes nothing.
+use mathlib.Core.Path.{_≡_, refl}
+use mathlib.Core.Bool.{true, false}
+use mathlib.Core.List.{[], _∷_, _++_}
+use lib.Ieee.{add, sub, mul, div, neg, lt, eq, le, round}
+use Rattle.ieee754.specs.Size.{abs}
+use Rattle.sphericalpoint.specs.Sqrt.{sqrtOf}
+use Rattle.sphericalpoint.specs.Vector.{equalityTolerance, coplanarTolerance, xyzSub, xyzMul, xyzDiv, xyzNeg, xyzAbs, xyzSum, xyzDot, xyzCross, xyzLength, xyzEq, normalized}
+use Rattle.sphericalpoint.specs.Point.{betweenInPlane, xyzsCoplanar, normalizedUnlessShort}
+use Rattle.arcstring.specs.Check.{inRange, allInRange, listCheck, storedCheck, buildCheck, pointCheck, roomCheck}
+use Rattle.arcstring.specs.Point.{coplanarPoints}
+use Rattle.arcstring.specs.Build.{endsMeet, builtVertices, builtString, buildInto, build}
+use Rattle.arcstring.specs.Crossing.{normal, meeting, sideFrom, sideTo, sideValues, grazes, isAbove, isBelow, signNegative, signPositive, someSide, everySide, atEnd, keptPoint, grazingOutcome, endOrClean, classAt, pairOf, legCheck, arcsCrossing}
+use Rattle.arcstring_edit.specs.Steps.{intoRoom}
+use Rattle.arcstring_edit.specs.Simplify.{thirdPosition, unnecessary, unnecessaryFrom, unnecessaryPositions, removeAt, removeAll, isSimple, rounds, simplified, simplify}
+use Rattle.arcstring.specs.declared.crossing.Pair.the-variants.{Clean, Grazing, Apart}
+use Rattle.arcstring.specs.declared.crossing.Outcome.the-variants.{Kept}
+use Rattle.arcstring.specs.Answer.{refused, answered}
+use Rattle.arcstring.specs.Points.{point}
+use Rattle.known_answers.specs.Twelve.{crossing, coplanar, building, simplifying, root, nought, unit, half, pointX, pointY, crossings, coplanars, buildings, simplifyings, roots, twelve, answers}
+
+known-crossings : crossings
+    ≡ crossing (answered (Clean (point unit nought nought)))
+    ∷ crossing (answered Apart)
+    ∷ crossing (answered (Grazing (Kept (point half nought nought))))
+    ∷ crossing (answered (Grazing (Kept (point nought nought nought))))
+    ∷ []
+unfolding arcsCrossing legCheck pointCheck inRange pairOf classAt endOrClean grazingOutcome keptPoint atEnd everySide someSide signPositive signNegative isBelow isAbove grazes sideValues sideTo sideFrom meeting normal equalityTolerance xyzSub xyzMul xyzNeg xyzAbs xyzSum xyzDot xyzCross xyzEq abs add sub mul neg lt eq le round
+known-crossings = refl
+
+known-coplanars : coplanars ≡ coplanar (answered true) ∷ coplanar (answered false) ∷ coplanar (answered false) ∷ coplanar (answered false) ∷ []
+unfolding coplanarPoints pointCheck inRange xyzsCoplanar betweenInPlane equalityTolerance coplanarTolerance xyzSub xyzMul xyzAbs xyzSum xyzDot xyzCross xyzLength xyzEq sqrtOf abs add sub mul div neg lt eq le round
+known-coplanars = refl
+
+known-buildings : buildings ≡ building (answered (record { vertices = pointX ∷ []; near = pointX ∷ []; closed = true })) ∷ building (refused 2) ∷ []
+unfolding build buildInto builtString builtVertices endsMeet buildCheck listCheck allInRange inRange roomCheck normalizedUnlessShort normalized equalityTolerance xyzSub xyzMul xyzDiv xyzAbs xyzSum xyzLength xyzEq sqrtOf abs add sub mul div lt eq le round
+known-buildings = refl
+
+known-simplifyings : simplifyings ≡ simplifying (answered (pointX ∷ pointY ∷ [])) ∷ simplifying (refused 5) ∷ []
+unfolding simplify simplified rounds isSimple removeAll removeAt unnecessaryPositions unnecessaryFrom unnecessary thirdPosition intoRoom storedCheck listCheck allInRange inRange roomCheck builtString builtVertices endsMeet normalizedUnlessShort normalized xyzsCoplanar betweenInPlane equalityTolerance coplanarTolerance xyzSub xyzMul xyzDiv xyzAbs xyzSum xyzDot xyzCross xyzLength xyzEq sqrtOf abs add sub mul div neg lt eq le round
+known-simplifyings = refl
+
+known-roots : roots ≡ root nought ∷ root half ∷ root unit ∷ []
+unfolding sqrtOf
+known-roots = refl
+
+-- the whole list at once
+pub twelve-known-answers : twelve ≡ answers
+unfolding twelve
+twelve-known-answers = λ i. known-crossings i ++ (known-coplanars i ++ (known-buildings i ++ (known-simplifyings i ++ known-roots i)))

@@ -1,0 +1,125 @@
+-- Document 01's twelve known answers: what the definitions give, and what the document says, as two lists. X, Y and Z are the axis unit points, M is (0.5, 0.5, 0). Definitions only.
+use mathlib.Core.Bool.{Bool, true, false}
+use mathlib.Core.List.{List, [], _∷_, _++_}
+use Prim.Native.Nat.{ℕ}
+use lib.IntN.{pos, negsuc}
+use lib.Ieee.{Float, fin}
+use Rattle.sphericalpoint.specs.declared.SphericalPoint.{SphericalPoint}
+use Rattle.sphericalpoint.specs.Sqrt.{sqrtOf}
+use Rattle.arcstring.specs.declared.crossing.Pair.{Pair}
+use Rattle.arcstring.specs.declared.crossing.Pair.the-variants.{Clean, Grazing, Apart}
+use Rattle.arcstring.specs.declared.crossing.Outcome.the-variants.{Kept}
+use Rattle.arcstring.specs.Answer.{Answer, refused, answered}
+use Rattle.arcstring.specs.Points.{ArcString, point, flat}
+use Rattle.arcstring.specs.Point.{coplanarPoints}
+use Rattle.arcstring.specs.Build.{builtString, build}
+use Rattle.arcstring.specs.Crossing.{Leg, leg, arcsCrossing}
+use Rattle.arcstring_edit.specs.Simplify.{simplify}
+
+pub data Known : Type 0 where
+  crossing : Answer Pair → Known
+  coplanar : Answer Bool → Known
+  building : Answer ArcString → Known
+  simplifying : Answer (List SphericalPoint) → Known
+  root : Float → Known
+
+-- ---- numbers, points, legs
+
+abbrev pub nought : Float
+nought = fin false 0 (pos 0)
+
+abbrev pub unit : Float
+unit = fin false 1 (pos 0)
+
+abbrev quarter : Float
+quarter = fin false 1 (negsuc 1)
+
+abbrev pub half : Float
+half = fin false 1 (negsuc 0)
+
+abbrev minusHalf : Float
+minusHalf = fin true 1 (negsuc 0)
+
+abbrev pub pointX : SphericalPoint
+pointX = point unit nought nought
+
+abbrev pub pointY : SphericalPoint
+pointY = point nought unit nought
+
+abbrev pointZ : SphericalPoint
+pointZ = point nought nought unit
+
+abbrev minusX : SphericalPoint
+minusX = point (fin true 1 (pos 0)) nought nought
+
+abbrev pointM : SphericalPoint
+pointM = point half half nought
+
+-- (1, -0.5, 0) to (1, 0.5, 0), and upright legs from (1, 0, low) to (1, 0, 0.5)
+abbrev level : Leg
+level = leg (point unit minusHalf nought) (point unit half nought)
+
+abbrev upright : Float → Leg
+upright low = leg (point unit nought low) (point unit nought half)
+
+-- what X, Y, M, X make
+abbrev builtXYM : ArcString
+builtXYM = builtString (pointX ∷ pointY ∷ pointM ∷ pointX ∷ [])
+
+-- ---- the twelve; 9 has two, and 12 three. A build has room for three floats, a simplified string for nine.
+
+-- 1 to 4
+abbrev pub crossings : List Known
+crossings =
+    crossing (arcsCrossing level (upright minusHalf))
+    ∷ crossing (arcsCrossing level (upright quarter))
+    ∷ crossing (arcsCrossing level (upright nought))
+    ∷ crossing (arcsCrossing (leg pointX pointY) (leg pointX pointY))
+    ∷ []
+
+-- 5 to 8
+abbrev pub coplanars : List Known
+coplanars =
+    coplanar (coplanarPoints pointX pointY pointM)
+    ∷ coplanar (coplanarPoints pointX pointM pointY)
+    ∷ coplanar (coplanarPoints pointX pointY pointZ)
+    ∷ coplanar (coplanarPoints pointX minusX pointY)
+    ∷ []
+
+-- 9
+abbrev pub buildings : List Known
+buildings = building (build (flat (pointX ∷ pointX ∷ [])) 3) ∷ building (build (flat (pointX ∷ [])) 3) ∷ []
+
+-- 10 and 11
+abbrev pub simplifyings : List Known
+simplifyings =
+    simplifying (simplify (flat (pointX ∷ pointY ∷ pointZ ∷ [])) false 9)
+    ∷ simplifying (simplify (flat (builtXYM .vertices)) (builtXYM .closed) 9)
+    ∷ []
+
+-- 12
+abbrev pub roots : List Known
+roots = root (sqrtOf nought) ∷ root (sqrtOf quarter) ∷ root (sqrtOf unit) ∷ []
+
+unfoldable pub twelve : List Known
+twelve = crossings ++ (coplanars ++ (buildings ++ (simplifyings ++ roots)))
+
+-- In 3 and 4 the points that the Rust keeps stand too: (0.5, 0, 0), not normalised, and (0, 0, 0).
+abbrev pub answers : List Known
+answers =
+    crossing (answered (Clean (point unit nought nought)))
+    ∷ crossing (answered Apart)
+    ∷ crossing (answered (Grazing (Kept (point half nought nought))))
+    ∷ crossing (answered (Grazing (Kept (point nought nought nought))))
+    ∷ coplanar (answered true)
+    ∷ coplanar (answered false)
+    ∷ coplanar (answered false)
+    ∷ coplanar (answered false)
+    ∷ building (answered (record { vertices = pointX ∷ []; near = pointX ∷ []; closed = true }))
+    ∷ building (refused 2)
+    ∷ simplifying (answered (pointX ∷ pointY ∷ []))
+    ∷ simplifying (refused 5)
+    ∷ root nought
+    ∷ root half
+    ∷ root unit
+    ∷ []

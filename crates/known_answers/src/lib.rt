@@ -1,0 +1,1 @@
+// No code: document 01's twelve known answers, as one list of the definitions' results.
