@@ -1,0 +1,211 @@
+-- The whole reading: it may be done in pieces; and what the code keeps of it answers as the plain reading does. Assumes nothing.
+use mathlib.Core.Path.{_≡_, refl, sym, ap, ap₂, _∙_}
+use mathlib.Core.Bool.{Bool, true, false, not, _&&_}
+use mathlib.Core.List.{List, [], _∷_, _++_, map, map-append}
+use mathlib.Core.Option.{Option, none, some}
+use Prim.Native.Nat.{ℕ, zero, suc, _+_, _*_, _/_, _%_, _≤_}
+use native.Mathlib.Omega.{arith}
+use lib.Dec.{ltb, eqb}
+use lib.ListN.{length, take, length-append, length-map}
+use lib.Seq.{take-all, take-append-le, length-take-le}
+use lib.Ieee.{Float, nan, inf, fin, le, binary64, ofBits}
+use borrow.Author.Tests.{ltb-true, ltb-false}
+use Rattle.arcstring.specs.declared.listing.Counts.{Counts}
+use Rattle.arcstring.specs.Answer.{Answer, refused, answered, unlessRefused, numberIf, firstOf, pick}
+use Rattle.arcstring.specs.Points.{points}
+use Rattle.arcstring.specs.Build.{builtString}
+use Rattle.arcstring.specs.Check.{inRange, allInRange, listCheck, buildCheck}
+use Rattle.arcstring.proofs.Checks.{too-many, build-enough, build-whole}
+use Rattle.textform.specs.declared.read.Part.{Part}
+use Rattle.textform.specs.declared.read.Part.the-variants as P
+use Rattle.textform.specs.Text.{State, start, partAt, placeAfter, hexDigit, malformed, onward, ifDigit, append, withFloat, stepAt, stepWith, fedWith, reading, wellFormed}
+use Rattle.textform.specs.Kept.{inPlace, keep, keptReading}
+use Rattle.textform.specs.Count.{countsBetween, countBuilt, countState}
+use Rattle.textform.proofs.Keeping.{keep-full, keep-more}
+use Rattle.textform.proofs.Triples.{whole-triples}
+
+-- ---- in pieces
+
+-- bytes in two pieces, one after the other
+pub fed-in-pieces : (add : Float → List Float → List Float) (s : State) (xs ys : List ℕ) → fedWith add (fedWith add s xs) ys ≡ fedWith add s (xs ++ ys)
+unfolding fedWith
+fed-in-pieces add s [] ys = refl
+fed-in-pieces add s (x ∷ xs) ys = fed-in-pieces add (stepWith add s x) xs ys
+
+-- ---- what is kept
+
+-- what is kept of a list: its first 1,025 points, with 2 in the place of each NaN
+unfoldable pub keptOf : List Float → List Float
+keptOf v = take 3075 (map inPlace v)
+
+-- what is kept of a state
+abbrev pub keptState : State → State
+keptState s = record { place = s .place; second = s .second; word = s .word; a = keptOf (s .a); b = keptOf (s .b) }
+
+-- a short list is kept whole
+pub kept-short : (v : List Float) → length v ≤ 3075 → keptOf v ≡ map inPlace v
+unfolding keptOf
+kept-short v h = take-all 3075 (map inPlace v) (omega (arith, length-map v inPlace))
+
+pub kept-long : (v : List Float) → 3075 ≤ length v → length (keptOf v) ≡ 3075
+unfolding keptOf
+kept-long v h = length-take-le 3075 (map inPlace v) (omega (arith, length-map v inPlace))
+
+-- one float more
+kept-append : (x : Float) (v : List Float) → keep x (keptOf v) ≡ keptOf (append x v)
+unfolding keptOf
+kept-append x v = by-length (ltb (length v) 3075) refl
+  where
+    by-length : (t : Bool) → ltb (length v) 3075 ≡ t → keep x (keptOf v) ≡ keptOf (append x v)
+    by-length true e =
+        let l = ltb-true (length v) 3075 e in
+        let n : length (keptOf v) ≡ length v = ap length (kept-short v (omega arith)) ∙ length-map v inPlace in
+        sym (keep-more x (keptOf v) (omega arith))
+        ∙ ap (λ (k : List Float). k ++ (inPlace x ∷ [])) (kept-short v (omega arith))
+        ∙ sym (map-append inPlace v (x ∷ []))
+        ∙ sym (kept-short (append x v) (omega (arith, length-append v (x ∷ []))))
+    by-length false e =
+        let l = ltb-false (length v) 3075 e in
+        sym (keep-full x (keptOf v) (omega (arith, kept-long v l)))
+        ∙ sym (ap (take 3075) (map-append inPlace v (x ∷ [])) ∙ take-append-le 3075 (map inPlace v) (inPlace x ∷ []) (omega (arith, length-map v inPlace)))
+
+module _ (s : State) where
+  kept-float : (x : Float) → withFloat keep x (keptState s) ≡ keptState (withFloat append x s)
+  kept-float x = λ i. record { place = placeAfter (s .place); second = s .second; word = 0; a = a' (s .second) i; b = b' (s .second) i }
+    where
+      a' : (t : Bool) → pick t (keptOf (s .a)) (keep x (keptOf (s .a))) ≡ keptOf (pick t (s .a) (append x (s .a)))
+      a' true = refl
+      a' false = kept-append x (s .a)
+
+      b' : (t : Bool) → pick t (keep x (keptOf (s .b))) (keptOf (s .b)) ≡ keptOf (pick t (append x (s .b)) (s .b))
+      b' true = kept-append x (s .b)
+      b' false = refl
+
+  -- a byte, whatever part stands at its place
+  kept-part : (part : Part) (byte : ℕ) → stepAt keep part (keptState s) byte ≡ keptState (stepAt append part s byte)
+  kept-part (P.Exactly c) byte = by-test (eqb byte c)
+    where
+      by-test : (t : Bool) → pick t (onward (s .second) 0 (keptState s)) (malformed (keptState s)) ≡ keptState (pick t (onward (s .second) 0 s) (malformed s))
+      by-test true = refl
+      by-test false = refl
+  kept-part P.Name byte = by-test (eqb byte 65) (eqb byte 66)
+    where
+      by-test : (t u : Bool) → pick t (onward false 0 (keptState s)) (pick u (onward true 0 (keptState s)) (malformed (keptState s)))
+          ≡ keptState (pick t (onward false 0 s) (pick u (onward true 0 s) (malformed s)))
+      by-test true u = refl
+      by-test false true = refl
+      by-test false false = refl
+  kept-part P.Digit byte = by-digit (hexDigit byte)
+    where
+      by-digit : (o : Option ℕ) → ifDigit o (λ (d : ℕ). onward (s .second) (16 * s .word + d) (keptState s)) (malformed (keptState s))
+          ≡ keptState (ifDigit o (λ (d : ℕ). onward (s .second) (16 * s .word + d) s) (malformed s))
+      by-digit none = refl
+      by-digit (some d) = refl
+  kept-part P.LastDigit byte = by-digit (hexDigit byte)
+    where
+      by-digit : (o : Option ℕ) → ifDigit o (λ (d : ℕ). withFloat keep (ofBits binary64 (16 * s .word + d)) (keptState s)) (malformed (keptState s))
+          ≡ keptState (ifDigit o (λ (d : ℕ). withFloat append (ofBits binary64 (16 * s .word + d)) s) (malformed s))
+      by-digit none = refl
+      by-digit (some d) = kept-float (ofBits binary64 (16 * s .word + d))
+  kept-part P.Nothing byte = refl
+
+  kept-step : (byte : ℕ) → stepWith keep (keptState s) byte ≡ keptState (stepWith append s byte)
+  unfolding stepWith
+  kept-step byte = kept-part (partAt (s .place)) byte
+
+kept-fed : (s : State) (bytes : List ℕ) → fedWith keep (keptState s) bytes ≡ keptState (fedWith append s bytes)
+unfolding fedWith
+kept-fed s [] = refl
+kept-fed s (byte ∷ bytes) = ap (λ (t : State). fedWith keep t bytes) (kept-step s byte) ∙ kept-fed (stepWith append s byte) bytes
+
+-- the reading that the code keeps is what is kept of the plain reading
+pub kept-reading : (bytes : List ℕ) → keptReading bytes ≡ keptState (reading bytes)
+unfolding keptReading reading keptOf
+kept-reading bytes = kept-fed start bytes
+
+-- ---- it answers as the plain reading does
+
+range-in-place : (x : Float) → inRange (inPlace x) ≡ inRange x
+unfolding inRange le
+range-in-place nan = refl
+range-in-place (inf s) = refl
+range-in-place (fin s m e) = refl
+
+ranges-in-place : (v : List Float) → allInRange (map inPlace v) ≡ allInRange v
+unfolding allInRange
+ranges-in-place [] = refl
+ranges-in-place (x ∷ v) = ap₂ _&&_ (range-in-place x) (ranges-in-place v)
+
+-- no coordinate in range is a NaN
+in-range-same : (x : Float) → inRange x ≡ true → inPlace x ≡ x
+unfolding inRange le
+in-range-same nan h = absurd (let z : _≡_ {A = Bool} false true = h in let y : _≡_ {A = ℕ} 0 1 = cc in omega arith)
+in-range-same (inf s) h = refl
+in-range-same (fin s m e) h = refl
+
+both-true : (t u : Bool) → t && u ≡ true → (t ≡ true) × (u ≡ true)
+both-true true u h = (refl, h)
+both-true false u h = absurd (let z : _≡_ {A = ℕ} 0 1 = cc in omega arith)
+
+all-in-range-same : (v : List Float) → allInRange v ≡ true → map inPlace v ≡ v
+unfolding allInRange
+all-in-range-same [] h = refl
+all-in-range-same (x ∷ v) h =
+    let both = both-true (inRange x) (allInRange v) h in
+    ap₂ _∷_ (in-range-same x (both .0)) (all-in-range-same v (both .1))
+
+-- the checks see of a list its length, and whether all its coordinates are in range
+check-by-parts : (v w : List Float) → length v ≡ length w → allInRange v ≡ allInRange w → buildCheck v ≡ buildCheck w
+unfolding buildCheck listCheck
+check-by-parts v w h g =
+    λ i. firstOf (numberIf (not (eqb (h i % 3) 0)) 1) (firstOf (numberIf (ltb (h i / 3) 2) 2) (firstOf (numberIf (ltb 1024 (h i / 3)) 3) (numberIf (not (g i)) 4)))
+
+module _ (v : List Float) where
+  -- of whole triples, what is kept is refused as the list is
+  pub kept-check : length v % 3 ≡ 0 → buildCheck (keptOf v) ≡ buildCheck v
+  kept-check h = by-length (ltb (length v) 3075) refl
+    where
+      by-length : (t : Bool) → ltb (length v) 3075 ≡ t → buildCheck (keptOf v) ≡ buildCheck v
+      by-length true e =
+          let l = ltb-true (length v) 3075 e in
+          ap buildCheck (kept-short v (omega arith)) ∙ check-by-parts (map inPlace v) v (length-map v inPlace) (ranges-in-place v)
+      by-length false e =
+          let l = ltb-false (length v) 3075 e in
+          let n = kept-long v l in
+          sym (too-many 0 (keptOf v) (omega arith) refl (omega arith) ∙ build-enough (keptOf v) (omega arith))
+          ∙ (too-many 0 v h refl (omega arith) ∙ build-enough v (omega arith))
+
+  -- and an accepted list is kept as it is
+  pub kept-accepted : buildCheck v ≡ 0 → keptOf v ≡ v
+  kept-accepted h =
+      let w = build-whole v h in
+      kept-short v (omega arith) ∙ all-in-range-same v (w .in-range)
+
+-- an answer behind two checks
+behind-checks : {A : Type 0} (m n : ℕ) (x y : Answer A) → (m ≡ 0 → n ≡ 0 → x ≡ y) → unlessRefused m (unlessRefused n x) ≡ unlessRefused m (unlessRefused n y)
+behind-checks zero zero x y h = h refl refl
+behind-checks zero (suc n) x y h = refl
+behind-checks (suc m) n x y h = refl
+
+-- two lists of whole triples are counted as they are
+kept-built : (a b : List Float) → length a % 3 ≡ 0 → length b % 3 ≡ 0 → countBuilt (keptOf a) (keptOf b) ≡ countBuilt a b
+unfolding countBuilt
+kept-built a b h k =
+    ap₂ (λ (m n : ℕ). unlessRefused m (unlessRefused n (answered (countsBetween (builtString (points (keptOf a))) (builtString (points (keptOf b))))))) (kept-check a h) (kept-check b k)
+    ∙ behind-checks (buildCheck a) (buildCheck b) _ _
+    (λ p q. ap₂ (λ (v w : List Float). answered (countsBetween (builtString (points v)) (builtString (points w)))) (kept-accepted a p) (kept-accepted b q))
+
+-- so the counts are those of the plain reading
+pub kept-counts : (bytes : List ℕ) → countState (keptReading bytes) ≡ countState (reading bytes)
+unfolding countState wellFormed
+kept-counts bytes = ap countState (kept-reading bytes) ∙ by-test (wellFormed (reading bytes)) refl
+  where
+    by-test : (t : Bool) → wellFormed (reading bytes) ≡ t
+        → pick (wellFormed (reading bytes)) (countBuilt (keptOf (reading bytes .a)) (keptOf (reading bytes .b))) (refused 8)
+        ≡ pick (wellFormed (reading bytes)) (countBuilt (reading bytes .a) (reading bytes .b)) (refused 8)
+    by-test true e =
+        let w = whole-triples bytes e in
+        ap (λ (x : Answer Counts). pick (wellFormed (reading bytes)) x (refused 8)) (kept-built (reading bytes .a) (reading bytes .b) (w .0) (w .1))
+    by-test false e =
+        ap (λ (t : Bool). pick t (countBuilt (keptOf (reading bytes .a)) (keptOf (reading bytes .b))) (refused 8)) e
+        ∙ sym (ap (λ (t : Bool). pick t (countBuilt (reading bytes .a) (reading bytes .b)) (refused 8)) e)

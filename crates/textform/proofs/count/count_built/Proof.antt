@@ -1,0 +1,138 @@
+-- `count_built` builds both strings and counts the pairs of their legs. Assumes nothing.
+use mathlib.Core.Path.{sym}
+use native.Mathlib.Omega.{arith}
+use borrow.Author.Needs.{needs}
+use Rattle.textform.proofs.BuiltStrings.{BuiltHere, build-refused, build-stands, first-refused, second-refused, both-counted}
+use Rattle.textform.proofs.count.count_built.Statement.{statement}
+use Rattle.textform.proofs.count.count_built.Tie as tie
+
+slice-aggregate-build : tie.Need-slice-aggregate-build
+slice-aggregate-build c = search needs
+
+build-requires : tie.Need-build-requires
+build-requires c κs = search needs
+
+enum-known-built : tie.Need-enum-known-built
+enum-known-built c = search needs
+
+number-requires : tie.Need-number-requires
+number-requires c κs = search needs
+
+enum-known-built-2 : tie.Need-enum-known-built-2
+enum-known-built-2 c = search needs
+
+slice-aggregate-build-2 : tie.Need-slice-aggregate-build-2
+slice-aggregate-build-2 c = search needs
+
+build-requires-2 : tie.Need-build-requires-2
+build-requires-2 c κs = search needs
+
+enum-known-other : tie.Need-enum-known-other
+enum-known-other c = search needs
+
+number-requires-2 : tie.Need-number-requires-2
+number-requires-2 c κs = search needs
+
+enum-known-other-2 : tie.Need-enum-known-other-2
+enum-known-other-2 c = search needs
+
+-- the first string, as it stands once it is built
+first-here : (c : tie.After-built2) → BuiltHere (c .before .before .before .before .before .before .before .args .a .now) (c .built2 .given .0 .0) (c .built2 .given .0 .1 .0) (c .before .before .before .build .last .1 .0)
+first-here c =
+    let b = c .before .before .before .build in
+    build-stands _ _ _ _ (b .ensures .0) (b .ensures .1) _ _ (c .built2 .given .1)
+
+-- and the second
+second-here : (c : tie.After-other2) → BuiltHere (c .before .before .before .before .before .before .before .before .before .before .before .before .before .args .b .now) (c .other2 .given .0 .0) (c .other2 .given .0 .1 .0) (c .before .before .before .build2 .last .1 .0)
+second-here c =
+    let b = c .before .before .before .build2 in
+    build-stands _ _ _ _ (b .ensures .0) (b .ensures .1) _ _ (c .other2 .given .1)
+
+mul-n-end : tie.Need-mul-n-end
+mul-n-end c = let h = first-here (c .before .before .before .before .before .before .before) .few in omega arith
+
+mul-m-end : tie.Need-mul-m-end
+mul-m-end c = let h = second-here (c .before) .few in omega arith
+
+array-share-prefix-first : tie.Need-array-share-prefix-first
+array-share-prefix-first c = first-here (c .before .before .before .before .before .before .before) .within
+
+slice-aggregate-count-between : tie.Need-slice-aggregate-count-between
+slice-aggregate-count-between c = sym (first-here (c .before .before .before .before .before .before .before .before) .floats)
+
+leg-count-requires : tie.Need-leg-count-requires
+leg-count-requires c κs = first-here (c .before .before .before .before .before .before .before .before) .some
+
+array-share-prefix-second : tie.Need-array-share-prefix-second
+array-share-prefix-second c = second-here (c .before .before .before) .within
+
+slice-aggregate-count-between-2 : tie.Need-slice-aggregate-count-between-2
+slice-aggregate-count-between-2 c = sym (second-here (c .before .before .before .before) .floats)
+
+leg-count-requires-2 : tie.Need-leg-count-requires-2
+leg-count-requires-2 c κs = second-here (c .before .before .before .before) .some
+
+count-between-requires : tie.Need-count-between-requires
+count-between-requires c κs =
+    let second = second-here (c .before .before .before .before .before) in
+    let first = first-here (c .before .before .before .before .before .before .before .before .before .before .before) in
+    ((first .floats, c .before .before .leg-count .ensures .1, first .few), (second .floats, c .leg-count2 .ensures .1, second .few))
+
+counts-of-requires : tie.Need-counts-of-requires
+counts-of-requires c κs = search needs
+
+returns : tie.Need-returns
+returns c =
+    let built = c .before .before in
+    let b = built .before .before .before in
+    let a = b .before .before .before .before .args in
+    first-refused (a .a .now) (a .b .now) (built .built .given .0 .0) _ (c .number .ensures) (build-refused _ _ _ _ (b .build .ensures .0) (b .build .ensures .1) _ (built .built .given .1))
+
+returns-2 : tie.Need-returns-2
+returns-2 c =
+    let other = c .before .before in
+    let b = other .before .before .before in
+    let built = b .before .before .before in
+    let a = built .before .before .before .before .before .before .before .args in
+    second-refused (a .a .now) (a .b .now) (other .other .given .0 .0) _ (c .number2 .ensures) (first-here built .accepted)
+    (build-refused _ _ _ _ (b .build2 .ensures .0) (b .build2 .ensures .1) _ (other .other .given .1))
+
+returns-3 : tie.Need-returns-3
+returns-3 c =
+    let legs2 = c .before .before in
+    let legs1 = legs2 .before .before in
+    let other = legs1 .before .before .before in
+    let built = other .before .before .before .before .before .before in
+    let a = built .before .before .before .before .before .before .before .args in
+    let first = first-here built in
+    let second = second-here other in
+    both-counted (a .a .now) (a .b .now) _ _ _ _ (first .accepted) (second .accepted) (first .all-legs _ (legs1 .leg-count .ensures .0)) (second .all-legs _ (legs2 .leg-count2 .ensures .0))
+    (c .before .count-between .ensures) (c .counts-of .ensures)
+
+pub count-built-spec : {M : Type 1} → statement M
+count-built-spec =
+    tie.close
+    (tie.spec
+    slice-aggregate-build
+    build-requires
+    enum-known-built
+    number-requires
+    enum-known-built-2
+    slice-aggregate-build-2
+    build-requires-2
+    enum-known-other
+    number-requires-2
+    enum-known-other-2
+    mul-n-end
+    mul-m-end
+    array-share-prefix-first
+    slice-aggregate-count-between
+    leg-count-requires
+    array-share-prefix-second
+    slice-aggregate-count-between-2
+    leg-count-requires-2
+    count-between-requires
+    counts-of-requires
+    returns
+    returns-2
+    returns-3)

@@ -1,0 +1,4 @@
+pub mod Text
+pub mod Print
+pub mod Count
+pub mod Kept
