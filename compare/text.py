@@ -12,11 +12,9 @@ import collections
 import math
 import os
 import random
-import resource
 import struct
 import subprocess
 import sys
-import tempfile
 import time
 
 TOP = os.path.dirname(os.path.dirname(os.path.abspath(__file__)))
@@ -204,18 +202,20 @@ def compare(files, seed):
 
 def many_rows(rows):
     r = random.Random(1)
-    with tempfile.TemporaryFile() as f:
-        f.write(NAMES)
-        some = b"".join(row(r, b"A" if i % 2 else b"B") for i in range(1000))
-        for _ in range(rows // 1000):
-            f.write(some)
-        size = f.tell()
-        f.seek(0)
-        start = time.time()
-        done = subprocess.run([PROGRAM], stdin=f, capture_output=True, check=True)
-        spent = time.time() - start
-    memory = resource.getrusage(resource.RUSAGE_CHILDREN).ru_maxrss
-    print(f"{rows} rows, {size} bytes: {done.stdout.decode().strip()!r} in {spent:.2f} s, {memory} KiB at most")
+    some = b"".join(row(r, b"A" if i % 2 else b"B") for i in range(1000))
+    start = time.time()
+    program = subprocess.Popen([PROGRAM], stdin=subprocess.PIPE, stdout=subprocess.PIPE)
+    program.stdin.write(NAMES)
+    for _ in range(rows // 1000):
+        program.stdin.write(some)
+    program.stdin.flush()
+    with open(f"/proc/{program.pid}/status", encoding="ascii") as f:
+        memory = next(line.split(":")[1].strip() for line in f if line.startswith("VmHWM"))
+    program.stdin.close()
+    out = program.stdout.read()
+    program.wait()
+    size = len(NAMES) + rows // 1000 * len(some)
+    print(f"{rows} rows, {size} bytes: {out.decode().strip()!r} in {time.time() - start:.2f} s, {memory} resident at most")
 
 
 def main():
