@@ -1,53 +1,58 @@
-//! What each call is to answer: the refusals from an independent reading of document 01's table, the results from the
-//! published Rust. The published listings say which points are kept; the classes are worked out here from the
-//! published vector functions.
-use crate::calls::{BLANK, BLANK_BYTE, BLANK_COUNT, Left, Stored, bits};
+//! What each call is to answer: the refusals from `table`, the results from the published Rust, and from both what every place that
+//! was lent is to hold. The published listings say which points are kept; the classes are worked out in `classes`.
+use crate::calls::{BLANK, BLANK_BYTE, BLANK_NUMBER, Left, bits};
+use crate::classes::{self, Leg, legs};
+use crate::expected_edit as edit;
 use crate::random::Xyz;
-use sphersgeo::arcstring::{
-    ArcString, arc_crossings_with_arcstring, arcs_crossing, point_is_along_arcstring, points_are_on_same_side, xyzs_turn_orientations,
-};
+use crate::request::{Call, Request};
+use crate::table;
+use sphersgeo::arcstring::{ArcString, arc_crossings_with_arcstring, point_is_along_arcstring, points_are_on_same_side, xyzs_turn_orientations};
 use sphersgeo::geometry::GeometricRelationships;
 use sphersgeo::sphericalpoint as published;
 use sphersgeo::sphericalpoint::MultiSphericalPoint;
 
-// ---- document 01's table
-
-pub fn outside(list: &[f64]) -> bool {
-    list.iter().any(|x| !(-1.0..=1.0).contains(x))
+/// A finished answer, before any look at the room for it: the single numbers before those of a buffer.
+#[derive(Default)]
+pub struct Answer {
+    pub floats: Vec<f64>,
+    pub bytes: Vec<u8>,
+    pub numbers: Vec<u64>,
 }
 
-pub fn first(checks: &[(bool, u32)]) -> u32 {
-    checks.iter().find(|c| c.0).map_or(0, |c| c.1)
+/// an answer, or the number of a refusal
+pub type Expected = Result<Answer, u32>;
+
+pub fn result(r: &Request) -> Expected {
+    match table::refusal(r) {
+        0 => match r.call {
+            Call::Simplify | Call::InsertVertices | Call::SplitLeg | Call::Split | Call::Equals | Call::Overlaps => edit::accepted(r),
+            _ => Ok(accepted(r)),
+        },
+        number => Err(number),
+    }
 }
 
-pub fn stored_refusal(v: &[f64]) -> u32 {
-    first(&[(v.len() % 3 != 0 || v.is_empty(), 1), (v.len() > 3072, 3), (outside(v), 4)])
+/// What every place is to hold: 7 where the answer is longer than a buffer, blanks wherever nothing is written.
+pub fn left(r: &Request, expected: &Expected) -> Left {
+    let (places, fixed, lent) = (r.places(), r.call.fixed(), r.call.lent());
+    let mut left = Left { number: 0, floats: bits(&vec![BLANK; places.floats]), bytes: vec![BLANK_BYTE; places.bytes], numbers: vec![BLANK_NUMBER; places.numbers] };
+    let answer = match expected {
+        Ok(answer) => answer,
+        Err(number) => return Left { number: *number, ..left },
+    };
+    let short = lent.0 && answer.floats.len() > r.room.floats
+        || lent.1 && answer.bytes.len() > fixed.bytes + r.room.bytes
+        || lent.2 && answer.numbers.len() > fixed.numbers + r.room.numbers;
+    if short {
+        return Left { number: 7, ..left };
+    }
+    left.floats[..answer.floats.len()].copy_from_slice(&bits(&answer.floats));
+    left.bytes[..answer.bytes.len()].copy_from_slice(&answer.bytes);
+    left.numbers[..answer.numbers.len()].copy_from_slice(&answer.numbers);
+    left
 }
 
-fn build_refusal(v: &[f64]) -> u32 {
-    first(&[(v.len() % 3 != 0, 1), (v.len() < 6, 2), (v.len() > 3072, 3), (outside(v), 4)])
-}
-
-pub fn points_refusal(list: &[f64]) -> u32 {
-    first(&[(outside(list), 4)])
-}
-
-pub fn in_turn(numbers: &[u32]) -> u32 {
-    numbers.iter().copied().find(|n| *n != 0).unwrap_or(0)
-}
-
-// ---- buffers
-
-/// the answer at the start of a buffer, and the rest as it came
-pub fn over<T: Copy>(blank: T, room: usize, answer: &[T]) -> Vec<T> {
-    let mut out = vec![blank; room];
-    out[..answer.len()].copy_from_slice(answer);
-    out
-}
-
-pub fn blanks(number: u32, floats: usize, bytes: usize, numbers: usize) -> Left {
-    Left { number, floats: bits(&vec![BLANK; floats]), bytes: vec![BLANK_BYTE; bytes], numbers: vec![BLANK_COUNT; numbers] }
-}
+// ---- lists, points, strings
 
 pub fn flat(points: &[Xyz]) -> Vec<f64> {
     points.iter().flatten().copied().collect()
@@ -58,284 +63,109 @@ pub fn triples(v: &[f64]) -> Vec<Xyz> {
 }
 
 /// a stored string, its fields as given
-pub fn stored(v: &[f64], closed: bool) -> ArcString {
-    let xyzs = triples(v);
-    let kdtree = kiddo::ImmutableKdTree::new_from_slice(&xyzs).unwrap();
-    ArcString { points: MultiSphericalPoint { xyzs, kdtree }, closed }
+pub fn stored(v: &[f64], near: &[f64], closed: bool) -> ArcString {
+    let kdtree = kiddo::ImmutableKdTree::new_from_slice(&triples(near)).unwrap();
+    ArcString { points: MultiSphericalPoint { xyzs: triples(v), kdtree }, closed }
 }
 
-// ---- single points
+/// the first and the second string of a request, each with its near list, which is empty for a call that is lent none
+pub fn both(r: &Request) -> (ArcString, ArcString) {
+    let [a, a_near, b, b_near] = &r.lists;
+    (stored(a, a_near, r.flags[0] != 0), stored(b, b_near, r.flags[1] != 0))
+}
 
-pub fn verdict(number: u32, yes: impl FnOnce() -> bool) -> Left {
-    let mut left = blanks(number, 0, 1, 0);
-    if number == 0 {
-        left.bytes = vec![yes() as u8];
+pub fn verdict(yes: bool) -> Answer {
+    Answer { bytes: vec![yes as u8], ..Answer::default() }
+}
+
+pub fn vertices(points: &[Xyz]) -> Answer {
+    Answer { floats: flat(points), numbers: vec![points.len() as u64], ..Answer::default() }
+}
+
+// ---- what the published Rust gives for accepted lists
+
+fn accepted(r: &Request) -> Answer {
+    let [a, _, b, _] = &r.lists;
+    let (closed, [from, to]) = (r.flags[0] != 0, r.at);
+    let p = triples(a);
+    match r.call {
+        Call::XyzEq => verdict(published::xyz_eq(&p[0], &p[1])),
+        Call::XyzsCoplanar => verdict(published::xyzs_coplanar(&p[0], &p[1], &p[2])),
+        Call::Point => Answer { floats: published::SphericalPoint::from(p[0]).xyz.to_vec(), ..Answer::default() },
+        Call::Build => build(p, None),
+        Call::BuildFlagged => build(p, Some(closed)),
+        Call::WalkBack => vertices(&p.iter().rev().copied().collect::<Vec<Xyz>>()),
+        Call::Restart => restarted(p, closed, from),
+        Call::Run => run(a, from, to),
+        Call::Pair => pair((p[0], p[1]), (triples(b)[0], triples(b)[1])),
+        Call::TurnOrientations => {
+            let turns = xyzs_turn_orientations(&p, closed);
+            Answer { numbers: vec![turns.len() as u64], floats: turns, ..Answer::default() }
+        }
+        Call::Midpoints => vertices(&stored(a, a, closed).midpoints().xyzs),
+        _ => of_strings(r, &p),
     }
-    left
 }
 
-pub fn xyz_eq(a: Xyz, b: Xyz) -> Left {
-    verdict(points_refusal(&flat(&[a, b])), || published::xyz_eq(&a, &b))
-}
-
-pub fn xyzs_coplanar(a: Xyz, b: Xyz, c: Xyz) -> Left {
-    verdict(points_refusal(&flat(&[a, b, c])), || published::xyzs_coplanar(&a, &b, &c))
-}
-
-pub fn point(p: Xyz) -> Left {
-    let mut left = blanks(points_refusal(&p), 3, 0, 0);
-    if left.number == 0 {
-        left.floats = bits(&published::SphericalPoint::from(p).xyz);
+fn of_strings(r: &Request, p: &[Xyz]) -> Answer {
+    let (s, t) = both(r);
+    match r.call {
+        Call::LegCrossings => listing(&[(p[0], p[1])], &t),
+        Call::Crossings => listing(&legs(p, s.closed), &t),
+        Call::Count => Answer { numbers: listing(&legs(p, s.closed), &t).numbers[1..].to_vec(), ..Answer::default() },
+        Call::CrossingsWithSelf => with_self(&s),
+        Call::CrossesSelf => verdict(s.crosses_self()),
+        Call::SameSide => verdict(points_are_on_same_side(&p[0], &p[1], &t)),
+        Call::Along => verdict(point_is_along_arcstring(&p[0], &t)),
+        Call::Eq => verdict(s == t),
+        Call::Crosses => verdict(s.crosses(&t)),
+        Call::Within => verdict(s.within(&t)),
+        _ => verdict(s.contains(&t)),
     }
-    left
 }
 
-// ---- strings
-
-pub fn written(number: u32, answer: &[f64], room: usize, flag: Option<bool>) -> Left {
-    let number = in_turn(&[number, first(&[(number == 0 && answer.len() > room, 7)])]);
-    let mut left = blanks(number, room, flag.is_some() as usize, 1);
-    if number == 0 {
-        left.floats = bits(&over(BLANK, room, answer));
-        left.numbers = vec![answer.len() as u64 / 3];
-        left.bytes = flag.iter().map(|f| *f as u8).collect();
-    }
-    left
+fn build(points: Vec<Xyz>, flag: Option<bool>) -> Answer {
+    let s = ArcString::try_new(MultiSphericalPoint::try_from(points).unwrap(), flag).unwrap();
+    let bytes = if flag.is_none() { vec![s.closed as u8] } else { vec![] };
+    Answer { bytes, ..vertices(&s.points.xyzs) }
 }
 
-/// the vertices and the flag; `with_flag` says whether the call has a place for the flag
-pub fn build(v: &[f64], flag: Option<bool>, room: usize) -> Left {
-    let number = build_refusal(v);
-    if number != 0 {
-        return written(number, &[], room, flag.is_none().then_some(false));
-    }
-    let points = MultiSphericalPoint::try_from(triples(v)).unwrap();
-    let s = ArcString::try_new(points, flag).unwrap();
-    written(0, &flat(&s.points.xyzs), room, flag.is_none().then_some(s.closed))
-}
-
-pub fn walk_back(v: &[f64], room: usize) -> Left {
-    let mut points = triples(v);
-    points.reverse();
-    written(stored_refusal(v), &flat(&points), room, None)
-}
-
-pub fn restart(v: &[f64], closed: bool, at: usize, room: usize) -> Left {
-    let mut points = triples(v);
+fn restarted(mut points: Vec<Xyz>, closed: bool, at: usize) -> Answer {
     if closed && at < points.len() {
         points.rotate_left(at);
     }
-    written(stored_refusal(v), &flat(&points), room, None)
+    vertices(&points)
 }
 
-pub fn run(v: &[f64], from: usize, to: usize) -> Left {
-    let mut left = blanks(0, 0, 0, 2);
+fn run(v: &[f64], from: usize, to: usize) -> Answer {
     let whole = v.len() % 3 == 0 && from < to && to <= v.len() / 3;
-    left.numbers = if whole { vec![3 * from as u64, 3 * (to - from) as u64] } else { vec![0, 0] };
-    left
+    Answer { numbers: if whole { vec![3 * from as u64, 3 * (to - from) as u64] } else { vec![0, 0] }, ..Answer::default() }
 }
 
-// ---- pairs and listings
-
-#[derive(Clone, Copy, PartialEq)]
-pub enum Class {
-    Clean = 1,
-    End = 2,
-    Grazing = 3,
-    Apart = 4,
+fn pair(a: Leg, b: Leg) -> Answer {
+    let judged = classes::judge(a, b);
+    let shown = judged.class == classes::Class::End || judged.kept;
+    Answer { floats: if shown { judged.point.unwrap().to_vec() } else { vec![] }, bytes: vec![judged.class as u8, judged.kept as u8], ..Answer::default() }
 }
 
-type Leg = (Xyz, Xyz);
-
-fn legs(points: &[Xyz], closed: bool) -> Vec<Leg> {
-    let n = points.len();
-    (0..n - !closed as usize).map(|i| (points[i], points[(i + 1) % n])).collect()
+/// the points that the published listing kept, with the marks and counts of the visited pairs
+fn listed(kept: &[Xyz], pairs: impl Iterator<Item = (Leg, Leg)>) -> Answer {
+    let (marks, counts) = classes::tally(pairs);
+    assert_eq!(marks.len(), kept.len(), "the classes keep as many points as the published listing");
+    let mut numbers = vec![kept.len() as u64];
+    numbers.extend(counts);
+    Answer { floats: flat(kept), bytes: marks, numbers }
 }
 
-/// document 01's class, and the point of `arcs_crossing` where there is one
-fn classify(a: Leg, b: Leg) -> (Class, Option<Xyz>, bool) {
-    let p = published::xyz_cross(&a.0, &a.1);
-    let q = published::xyz_cross(&b.0, &b.1);
-    let t = published::xyz_cross(&p, &q);
-    let sides = [
-        published::xyz_dot(&published::xyz_neg(&published::xyz_cross(&a.0, &p)), &t),
-        published::xyz_dot(&published::xyz_cross(&a.1, &p), &t),
-        published::xyz_dot(&published::xyz_neg(&published::xyz_cross(&b.0, &q)), &t),
-        published::xyz_dot(&published::xyz_cross(&b.1, &q), &t),
-    ];
-    let point = arcs_crossing((&a.0, &a.1), (&b.0, &b.1));
-    let end = point.is_some_and(|p| [a.0, a.1, b.0, b.1].iter().any(|e| published::xyz_eq(&p, e)));
-    let class = if sides.contains(&0.0) {
-        Class::Grazing
-    } else if point.is_none() {
-        Class::Apart
-    } else if end {
-        Class::End
-    } else {
-        Class::Clean
-    };
-    (class, point, point.is_some() && !end)
+fn listing(first: &[Leg], t: &ArcString) -> Answer {
+    let others = legs(&t.points.xyzs, t.closed);
+    let kept: Vec<Xyz> = first.iter().flat_map(|l| arc_crossings_with_arcstring((&l.0, &l.1), t).unwrap_or_default()).collect();
+    listed(&kept, first.iter().flat_map(|l| others.iter().map(|b| (*l, *b))))
 }
 
-pub fn pair(a: &[f64; 6], b: &[f64; 6]) -> Left {
-    let mut left = blanks(in_turn(&[points_refusal(a), points_refusal(b)]), 3, 2, 0);
-    if left.number == 0 {
-        let (p, q) = (triples(a), triples(b));
-        let (class, point, kept) = classify((p[0], p[1]), (q[0], q[1]));
-        left.bytes = vec![class as u8, kept as u8];
-        if class == Class::End || kept {
-            left.floats = bits(&point.unwrap());
-        }
-    }
-    left
-}
-
-fn listing(number: u32, pairs: &[(Leg, Leg)], kept: &[Xyz], room: usize, marks_room: usize) -> Left {
-    let (k, m) = (3 * kept.len(), kept.len());
-    let number = in_turn(&[number, first(&[(number == 0 && (k > room || m > marks_room), 7)])]);
-    let mut left = blanks(number, room, marks_room, 5);
-    if number == 0 {
-        let mut counts = [0u64; 4];
-        let mut marks = vec![];
-        for (a, b) in pairs {
-            let (class, _, kept) = classify(*a, *b);
-            counts[class as usize - 1] += 1;
-            if kept {
-                marks.push((class == Class::Clean) as u8);
-            }
-        }
-        assert_eq!(marks.len(), kept.len(), "the classes keep as many points as the published listing");
-        left.floats = bits(&over(BLANK, room, &flat(kept)));
-        left.bytes = over(BLANK_BYTE, marks_room, &marks);
-        left.numbers = vec![kept.len() as u64];
-        left.numbers.extend(counts);
-    }
-    left
-}
-
-pub fn leg_of(six: &[f64; 6]) -> Leg {
-    let p = triples(six);
-    (p[0], p[1])
-}
-
-pub fn leg_crossings(leg: &[f64; 6], v: &[f64], closed: bool, room: usize, marks_room: usize) -> Left {
-    let number = in_turn(&[points_refusal(leg), stored_refusal(v)]);
-    if number != 0 {
-        return listing(number, &[], &[], room, marks_room);
-    }
-    let a = leg_of(leg);
-    let kept = arc_crossings_with_arcstring((&a.0, &a.1), &stored(v, closed)).unwrap_or_default();
-    let pairs: Vec<(Leg, Leg)> = legs(&triples(v), closed).into_iter().map(|b| (a, b)).collect();
-    listing(0, &pairs, &kept, room, marks_room)
-}
-
-fn two(a: &[f64], ac: bool, b: &[f64], bc: bool) -> (Vec<(Leg, Leg)>, Vec<Xyz>) {
-    let string = stored(b, bc);
-    let others = legs(&triples(b), bc);
-    let (mut pairs, mut kept) = (vec![], vec![]);
-    for l in legs(&triples(a), ac) {
-        pairs.extend(others.iter().map(|b| (l, *b)));
-        kept.extend(arc_crossings_with_arcstring((&l.0, &l.1), &string).unwrap_or_default());
-    }
-    (pairs, kept)
-}
-
-pub fn crossings(a: &[f64], ac: bool, b: &[f64], bc: bool, room: usize, marks_room: usize) -> Left {
-    let number = in_turn(&[stored_refusal(a), stored_refusal(b)]);
-    let (pairs, kept) = if number == 0 { two(a, ac, b, bc) } else { (vec![], vec![]) };
-    listing(number, &pairs, &kept, room, marks_room)
-}
-
-/// how many points two strings keep, for buffers around that length
-pub fn kept(a: &[f64], ac: bool, b: &[f64], bc: bool) -> usize {
-    if in_turn(&[stored_refusal(a), stored_refusal(b)]) == 0 { two(a, ac, b, bc).1.len() } else { 4 }
-}
-
-pub fn count(a: &[f64], ac: bool, b: &[f64], bc: bool) -> Left {
-    let number = in_turn(&[stored_refusal(a), stored_refusal(b)]);
-    let mut left = blanks(number, 0, 0, 4);
-    if number == 0 {
-        let mut counts = [0u64; 4];
-        for (a, b) in two(a, ac, b, bc).0 {
-            counts[classify(a, b).0 as usize - 1] += 1;
-        }
-        left.numbers = counts.to_vec();
-    }
-    left
-}
-
-pub fn crossings_with_self(v: &[f64], room: usize, marks_room: usize) -> Left {
-    let number = stored_refusal(v);
-    if number != 0 {
-        return listing(number, &[], &[], room, marks_room);
-    }
-    let kept = stored(v, false).crossings_with_self().map_or(vec![], |k| k.xyzs);
-    let own = legs(&triples(v), false);
-    let mut pairs = vec![];
-    for i in 0..own.len() {
-        pairs.extend((i + 2..own.len()).map(|j| (own[i], own[j])));
-    }
-    listing(0, &pairs, &kept, room, marks_room)
-}
-
-pub fn crosses_self(v: &[f64], closed: bool) -> Left {
-    verdict(stored_refusal(v), || stored(v, closed).crosses_self())
-}
-
-pub fn same_side(a: Xyz, b: Xyz, v: &[f64], closed: bool) -> Left {
-    verdict(in_turn(&[points_refusal(&flat(&[a, b])), stored_refusal(v)]), || points_are_on_same_side(&a, &b, &stored(v, closed)))
-}
-
-// ---- on a string, relations, measures
-
-pub fn with_near(s: &Stored) -> ArcString {
-    let mut string = stored(s.vertices, s.flag != 0);
-    string.points.kdtree = kiddo::ImmutableKdTree::new_from_slice(&triples(s.near)).unwrap();
-    string
-}
-
-pub fn string_refusal(s: &Stored) -> u32 {
-    in_turn(&[stored_refusal(s.vertices), stored_refusal(s.near)])
-}
-
-pub fn along(p: Xyz, s: &Stored) -> Left {
-    verdict(in_turn(&[string_refusal(s), points_refusal(&p)]), || point_is_along_arcstring(&p, &with_near(s)))
-}
-
-pub fn eq(a: &Stored, b: &Stored) -> Left {
-    verdict(in_turn(&[string_refusal(a), string_refusal(b)]), || with_near(a) == with_near(b))
-}
-
-pub fn crosses(a: &Stored, b: &Stored) -> Left {
-    verdict(in_turn(&[string_refusal(a), string_refusal(b)]), || with_near(a).crosses(&with_near(b)))
-}
-
-pub fn within(a: &[f64], b: &Stored) -> Left {
-    verdict(in_turn(&[stored_refusal(a), string_refusal(b)]), || stored(a, false).within(&with_near(b)))
-}
-
-pub fn contains(a: &Stored, b: &[f64]) -> Left {
-    verdict(in_turn(&[string_refusal(a), stored_refusal(b)]), || with_near(a).contains(&stored(b, false)))
-}
-
-pub fn turn_orientations(v: &[f64], closed: bool, room: usize) -> Left {
-    let number = in_turn(&[stored_refusal(v), first(&[(v.len() / 3 > room, 7)])]);
-    let mut left = blanks(number, room, 0, 1);
-    if number == 0 {
-        let turns: Vec<f64> = xyzs_turn_orientations(&triples(v), closed).iter().map(|x| if x.is_nan() { f64::NAN } else { *x }).collect();
-        left.floats = bits(&over(BLANK, room, &turns));
-        left.numbers = vec![turns.len() as u64];
-    }
-    left
-}
-
-pub fn midpoints(v: &[f64], closed: bool, room: usize) -> Left {
-    let number = first(&[
-        (v.len() % 3 != 0 || v.is_empty(), 1),
-        (!closed && v.len() == 3, 2),
-        (v.len() > 3072, 3),
-        (outside(v), 4),
-    ]);
-    let answer = if number == 0 { flat(&stored(v, closed).midpoints().xyzs) } else { vec![] };
-    written(number, &answer, room, None)
+fn with_self(s: &ArcString) -> Answer {
+    let own = legs(&s.points.xyzs, false);
+    let kept = s.crossings_with_self().map_or(vec![], |k| k.xyzs);
+    let pairs: Vec<(Leg, Leg)> = (0..own.len()).flat_map(|i| (i + 2..own.len()).map(move |j| (i, j))).map(|(i, j)| (own[i], own[j])).collect();
+    listed(&kept, pairs.into_iter())
 }

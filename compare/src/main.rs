@@ -1,83 +1,102 @@
 //! Compares the proved libraries with the published Rust and with the processor, bit for bit (any NaN with any NaN).
-//! A line for each kind of case says how often it came; a difference prints its input and ends the run with 1.
+//! A line for each kind of case says how often it came; a difference prints its request and ends the run with 1.
 mod bench;
 mod calls;
+mod classes;
 mod edits;
 mod expected;
 mod expected_edit;
+mod inputs;
+mod kinds;
 mod random;
+mod request;
 mod roots;
+mod sample;
+mod small;
 mod strings;
+mod table;
+mod tally;
 mod vectors;
 
-use std::collections::BTreeMap;
+use request::Request;
+use sample::Sample;
+use std::path::Path;
+use tally::Tally;
 
-#[derive(Default)]
-pub struct Tally {
-    pub done: u64,
-    different: u64,
-    kinds: BTreeMap<String, u64>,
-}
+type Work = fn(&mut Tally, u64);
 
-impl Tally {
-    pub fn compare(&mut self, kind: &str, same: bool, input: impl Fn() -> String) {
-        self.done += 1;
-        match self.kinds.get_mut(kind) {
-            Some(n) => *n += 1,
-            None => {
-                self.kinds.insert(kind.to_string(), 1);
-            }
-        }
-        if !same {
-            self.different += 1;
-            if self.different <= 10 {
-                println!("DIFFERENT: {}", input());
-            }
-        }
-        if self.done % (1 << 16) == 0 {
-            eprint!("\r{} compared", self.done);
-        }
-    }
-}
+/// What can be compared, with the usual number of comparisons; the small requests are as many as there are.
+const COMPARISONS: [(&str, u64, Work); 5] = [
+    ("roots", 12_000_000, roots::run),
+    ("vectors", 3_000_000, vectors::run),
+    ("small", 1, small::run),
+    ("strings", 6_000_000, strings::run),
+    ("edits", 1_000_000, edits::run),
+];
 
-fn run(name: &str, n: u64, work: impl Fn(&mut Tally, u64)) -> bool {
-    let mut tally = Tally::default();
+fn run(name: &'static str, n: u64, work: Work) -> Tally {
+    let mut tally = Tally::new(name, None);
     work(&mut tally, n);
-    eprint!("\r");
-    for (kind, n) in &tally.kinds {
-        println!("    {n:>10}  {kind}");
+    tally.summary();
+    tally
+}
+
+/// every comparison whose name is among the words, at the size that follows it, or all of them
+fn compare(words: &[String]) -> bool {
+    let (mut done, mut different) = (0, 0);
+    for (name, usual, work) in COMPARISONS {
+        let given = words.iter().position(|w| w == name);
+        if given.is_none() && !words.is_empty() {
+            continue;
+        }
+        let n = given.and_then(|i| words.get(i + 1)).and_then(|n| n.parse().ok()).unwrap_or(usual);
+        let tally = run(name, n, work);
+        done += tally.done;
+        different += tally.different;
     }
-    println!("{name}: {} compared, {} different", tally.done, tally.different);
+    if done > 0 {
+        println!("in all: {done} compared, {different} different");
+    }
+    different == 0
+}
+
+/// the requests of a file, one a line, each beside what is expected
+fn requests(file: &str) -> bool {
+    let mut tally = Tally::new("requests", None);
+    for line in std::fs::read_to_string(file).expect("a file of requests").lines() {
+        let r = Request::parse(line).unwrap_or_else(|| panic!("no request: {line}"));
+        println!("{}", calls::answer(&r).line(r.call.name()));
+        tally.request(&r, &expected::result(&r));
+    }
+    tally.summary();
     tally.different == 0
 }
 
-fn main() {
-    let words: Vec<String> = std::env::args().skip(1).collect();
-    let size = |name: &str, usual: u64| match words.iter().position(|w| w == name) {
-        Some(i) => words.get(i + 1).and_then(|n| n.parse().ok()).unwrap_or(usual),
-        None if words.is_empty() => usual,
-        None => 0,
-    };
+/// stores a sample of the small and the random requests in a folder
+fn sample(folder: &str) -> bool {
+    let mut sample = Sample::default();
     let mut same = true;
-    let n = size("roots", 12_000_000);
-    if n > 0 {
-        same &= run("roots", n, roots::run);
-        roots::speed();
+    for (name, n, work) in [("edits", 60_000, edits::run as Work), ("strings", 200_000, strings::run), ("small", 1, small::run)] {
+        let mut tally = Tally::new(name, Some(sample));
+        work(&mut tally, n);
+        same &= tally.different == 0;
+        sample = tally.sample.unwrap_or_default();
     }
-    let n = size("vectors", 3_000_000);
-    if n > 0 {
-        same &= run("vectors", n, vectors::run);
-    }
-    let n = size("strings", 600_000);
-    if n > 0 {
-        same &= run("strings", n, strings::run);
-    }
-    let n = size("edits", 400_000);
-    if n > 0 {
-        same &= run("edits", n, edits::run);
-    }
-    if words.is_empty() || words.iter().any(|w| w == "bench") {
-        bench::run();
-    }
+    sample.store(Path::new(folder)).expect("the sample is stored");
+    same
+}
+
+fn main() {
+    expected_edit::quiet_panics();
+    let words: Vec<String> = std::env::args().skip(1).collect();
+    let same = match words.first().map(String::as_str) {
+        Some("requests") => requests(words.get(1).expect("a file")),
+        Some("sample") => sample(words.get(1).expect("a folder")),
+        Some("bench") => {
+            bench::run();
+            true
+        }
+        _ => compare(&words),
+    };
     std::process::exit(if same { 0 } else { 1 });
 }

@@ -1,8 +1,7 @@
 //! The square root against the processor's.
-use crate::Tally;
+use crate::tally::Tally;
 use crate::random::Random;
 use std::hint::black_box;
-use std::time::Instant;
 
 unsafe extern "C" {
     fn sphericalpoint_sqrt(x: f64) -> f64;
@@ -45,23 +44,14 @@ pub fn run(tally: &mut Tally, n: u64) {
     }
 }
 
-/// nanoseconds a call: many independent ones, of ours and of the processor
-pub fn speed() {
+/// independent numbers to take roots of, for timing
+pub fn inputs() -> Vec<f64> {
     let mut random = Random(7);
-    let inputs: Vec<f64> = (0..4096).map(|_| f64::from_bits(random.bits() >> 2)).filter(|x| x.is_finite()).collect();
-    let time = |f: &dyn Fn(f64) -> f64| {
-        (0..31)
-            .map(|_| {
-                let start = Instant::now();
-                for _ in 0..16 {
-                    for x in &inputs {
-                        black_box(f(black_box(*x)));
-                    }
-                }
-                start.elapsed().as_nanos() as f64 / (16 * inputs.len()) as f64
-            })
-            .fold(f64::INFINITY, f64::min)
-    };
-    let (ours, theirs) = (time(&sqrt), time(&f64::sqrt));
-    println!("square root: {ours:.1} ns a call, the processor's {theirs:.1} ns, ratio {:.1}", ours / theirs);
+    (0..4096).map(|_| f64::from_bits(random.bits() >> 2)).filter(|x| x.is_finite()).collect()
+}
+
+pub fn all(inputs: &[f64], root: impl Fn(f64) -> f64) {
+    for x in inputs {
+        black_box(root(black_box(*x)));
+    }
 }

@@ -1,5 +1,5 @@
 //! `xyz_eq`, `xyzs_coplanar` and `SphericalPoint::from` of the vector layer against the published ones.
-use crate::Tally;
+use crate::tally::Tally;
 use crate::random::{Points, Xyz};
 use sphersgeo::sphericalpoint as published;
 

@@ -14,9 +14,9 @@ ghost use Rattle.arcstring.specs.Crossing.{leg, legOf, arcsCrossing};
 ghost use Rattle.arcstring.specs.Listing.{counted, crossings, legCrossings, selfCrossings, crossesSelf, sameSide, listedAnswer, listedFloats, listedBytes};
 ghost use Rattle.arcstring_c.specs.Numbers.{answerNumber, leftIn, flag, flagByte, threeFloats, legOfSix, classNumber, keptByte, pairPoint, vertexCount, closedByte, fourCounts, keptCount, listingCounts, listedKept, listedCounts, runLength, runStart};
 
-mod edit;
-mod measure;
-mod near;
+pub mod edit;
+pub mod measure;
+pub mod near;
 
 use arcstring::build::Built;
 use arcstring::check;

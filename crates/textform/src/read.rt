@@ -106,7 +106,7 @@ fn place_after(place: usize) -> usize
 }
 
 // 0 to 9 and A to F.
-fn hex_digit(byte: u8) -> Digit
+pub fn hex_digit(byte: u8) -> Digit
     ensures { λ r. ⌜ digitValue r ≡ hexDigit byte ⌝ }
 {
     if byte < b'0' {
@@ -125,7 +125,7 @@ fn hex_digit(byte: u8) -> Digit
 }
 
 // The float of 64 bits, and 2 where they are a NaN's: both are out of range.
-fn coordinate(word: u64) -> f64
+pub fn coordinate(word: u64) -> f64
     ensures { λ r. ⌜ r ≡ inPlace (ofBits binary64 word) ⌝ }
 {
     let rest = word % 9223372036854775808;

@@ -1,0 +1,82 @@
+//! Which branch of a call an answer took: the summary counts by these, and each is at most 48 bytes.
+use crate::calls::Left;
+use crate::request::{Call, Request};
+
+pub fn kind(r: &Request, left: &Left) -> String {
+    let name = r.call.name();
+    match left.number {
+        0 => format!("{name}{}", branch(r, left)),
+        3 if r.lists.iter().all(|l| l.len() <= 3072) => format!("{name}: refusal 3 of a result"),
+        n => format!("{name}: refusal {n}"),
+    }
+}
+
+fn branch(r: &Request, left: &Left) -> String {
+    let closed = r.flags[0] != 0;
+    let vertices = r.lists[0].len() / 3;
+    let count = left.numbers.first().map_or(0, |n| *n as usize);
+    match r.call {
+        Call::Point => (if left.floats[..] == crate::calls::bits(&r.lists[0]) { ": kept" } else { ": normalised" }).to_string(),
+        Call::Build => (if left.bytes == [1] { ": closed" } else { ": open" }).to_string(),
+        Call::BuildFlagged => format!(": {}", if count < vertices { "last point dropped" } else { "all points" }),
+        Call::WalkBack | Call::Count => String::new(),
+        Call::Restart => (if closed && r.at[0] < vertices { ": closed" } else { ": the same" }).to_string(),
+        Call::Run => (if left.numbers[1] == 0 { ": empty" } else { ": a part" }).to_string(),
+        Call::Pair => pair(left).to_string(),
+        Call::LegCrossings | Call::Crossings | Call::CrossingsWithSelf => marks(&left.bytes[..count]).to_string(),
+        Call::TurnOrientations | Call::Midpoints => open_or_closed(closed).to_string(),
+        Call::Simplify => format!("{}{}", open_or_closed(closed), size(count, vertices, ", removed", ", nothing removed")),
+        Call::InsertVertices => size(count, vertices, ": inserted", ": nothing inserted"),
+        Call::SplitLeg => pieces(count).to_string(),
+        Call::Split => split(left, count),
+        _ => (if left.bytes == [1] { ": yes" } else { ": no" }).to_string(),
+    }
+}
+
+fn open_or_closed(closed: bool) -> &'static str {
+    if closed { ": closed" } else { ": open" }
+}
+
+fn pair(left: &Left) -> &'static str {
+    match (left.bytes[0], left.bytes[1]) {
+        (1, _) => ": clean",
+        (2, _) => ": end",
+        (3, 1) => ": grazing, kept",
+        (3, _) => ": grazing, dropped",
+        _ => ": apart",
+    }
+}
+
+fn marks(marks: &[u8]) -> &'static str {
+    match (marks.contains(&1), marks.contains(&0)) {
+        (true, true) => ": clean and grazing kept",
+        (true, false) => ": clean kept",
+        (false, true) => ": grazing kept",
+        _ => ": nothing kept",
+    }
+}
+
+fn size(n: usize, before: usize, changed: &str, same: &str) -> String {
+    let edge = match n {
+        1024 => ", 1,024 points",
+        1020..=1023 => ", 1,020 to 1,023",
+        _ => "",
+    };
+    format!("{}{edge}", if n == before { same } else { changed })
+}
+
+fn pieces(count: usize) -> &'static str {
+    match count {
+        0 => ": uncut",
+        2 => ": 2 pieces",
+        3..=500 => ": more pieces",
+        _ => ": over 500 pieces",
+    }
+}
+
+fn split(left: &Left, count: usize) -> String {
+    let flags = &left.bytes[..count];
+    let total: u64 = left.numbers[1..=count].iter().sum();
+    let closed = if flags.contains(&1) { ", some closed" } else { "" };
+    format!("{}{closed}{}", pieces(count), if total == 1024 { ", 1,024 points" } else { "" })
+}

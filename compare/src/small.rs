@@ -1,0 +1,153 @@
+//! Short requests, every one there is over small sets of coordinates and points.
+use crate::expected::{self, flat};
+use crate::random::Xyz;
+use crate::request::{Call, Places, Request};
+use crate::tally::Tally;
+
+/// every point whose coordinates are from a set
+fn grid(coordinates: &[f64]) -> Vec<Xyz> {
+    let mut points = vec![];
+    for x in coordinates {
+        for y in coordinates {
+            points.extend(coordinates.iter().map(|z| [*x, *y, *z]));
+        }
+    }
+    points
+}
+
+/// every list of `n` of the points
+fn lists(points: &[Xyz], n: usize) -> Vec<Vec<f64>> {
+    (0..n).fold(vec![vec![]], |all: Vec<Vec<f64>>, _| all.iter().flat_map(|list| points.iter().map(move |p| [&list[..], &p[..]].concat())).collect())
+}
+
+fn lists_up_to(points: &[Xyz], least: usize, most: usize) -> Vec<Vec<f64>> {
+    (least..=most).flat_map(|n| lists(points, n)).collect()
+}
+
+/// with buffers of exactly the answer's length
+fn send(tally: &mut Tally, mut r: Request) {
+    let expected = expected::result(&r);
+    let (fixed, lent) = (r.call.fixed(), r.call.lent());
+    if let Ok(a) = &expected {
+        let numbers = a.numbers.len().saturating_sub(fixed.numbers);
+        r.room = Places { floats: lent.0 as usize * a.floats.len(), bytes: lent.1 as usize * a.bytes.len(), numbers: lent.2 as usize * numbers };
+    }
+    tally.request(&r, &expected);
+}
+
+/// the pieces of six axis and diagonal points that lie on, between and beyond one another's legs
+const COURSE: [Xyz; 6] = [[1.0, 0.0, 0.0], [0.0, 1.0, 0.0], [1.0, 1.0, 0.0], [0.0, 0.0, 1.0], [-1.0, -0.0, 0.0], [1.0, 0.5, 0.5]];
+
+const ONE_STRING: [Call; 9] = [
+    Call::Build, Call::BuildFlagged, Call::WalkBack, Call::CrossingsWithSelf, Call::CrossesSelf, Call::TurnOrientations, Call::Midpoints, Call::Simplify, Call::Restart,
+];
+
+const TWO_STRINGS: [Call; 8] = [Call::Crossings, Call::Count, Call::Eq, Call::Equals, Call::Crosses, Call::Overlaps, Call::Within, Call::Contains];
+
+/// points by themselves, and every pair of legs of two grids: one with both signs, one with both zeros
+fn points(tally: &mut Tally) {
+    let signs = grid(&[-1.0, 0.0, 1.0]);
+    let zeros = grid(&[-0.0, 0.0, 1.0]);
+    let wide = grid(&[-1.0, -0.5, -0.0, 0.0, 0.5, 1.0, 2.0, f64::NAN]);
+    for p in &wide {
+        send(tally, Request::new(Call::Point, &[p]));
+        for q in &wide {
+            send(tally, Request::new(Call::XyzEq, &[&flat(&[*p, *q])]));
+        }
+    }
+    for three in lists(&grid(&[-1.0, -0.0, 0.0, 0.5, 1.0]), 2).iter().flat_map(|two| signs.iter().map(move |p| [&two[..], &p[..]].concat())) {
+        send(tally, Request::new(Call::XyzsCoplanar, &[&three]));
+    }
+    for set in [signs, zeros] {
+        let legs = lists(&set, 2);
+        for a in &legs {
+            for b in &legs {
+                send(tally, Request::new(Call::Pair, &[a, &[], b]));
+            }
+        }
+    }
+}
+
+fn one_string(tally: &mut Tally) {
+    for v in lists_up_to(&COURSE, 0, 5) {
+        for flag in [0, 1] {
+            for call in ONE_STRING {
+                for at in 0..if call == Call::Restart { v.len() / 3 + 1 } else { 1 } {
+                    send(tally, Request::new(call, &[&v]).flags(flag, 0).at(at, 0));
+                }
+            }
+        }
+    }
+}
+
+/// every length of a list in floats, every position, every room up to one more than the answer
+fn lengths(tally: &mut Tally) {
+    let long: Vec<f64> = COURSE.iter().cycle().flatten().copied().take(40).collect();
+    for n in 0..=20 {
+        let v = &long[..n];
+        for from in 0..=8 {
+            for to in 0..=8 {
+                tally.request(&Request::new(Call::Run, &[v]).at(from, to), &expected::result(&Request::new(Call::Run, &[v]).at(from, to)));
+            }
+        }
+        for call in ONE_STRING.into_iter().chain([Call::Crossings, Call::InsertVertices, Call::Split, Call::SplitLeg]) {
+            for m in [0, 3, 4, 6, 9] {
+                let first = if call == Call::SplitLeg { &long[..6] } else { v };
+                let mut r = Request::new(call, &[first, &[], &long[40 - m..]]).flags(1, 1).at(1, 0);
+                let expected = expected::result(&r);
+                for room in 0..=30 {
+                    let lent = call.lent();
+                    r.room = Places { floats: lent.0 as usize * room, bytes: lent.1 as usize * (room / 3), numbers: lent.2 as usize * (room % 5) };
+                    tally.request(&r, &expected);
+                }
+            }
+        }
+    }
+}
+
+fn two_strings(tally: &mut Tally) {
+    let strings = lists_up_to(&COURSE[..5], 1, 3);
+    for a in &strings {
+        for b in &strings {
+            for flags in [[0, 0], [0, 1], [1, 0], [1, 1]] {
+                for call in TWO_STRINGS {
+                    send(tally, Request::new(call, &[a, a, b, b]).flags(flags[0], flags[1]));
+                }
+            }
+        }
+    }
+}
+
+/// a point, a leg or extra points, with a string
+fn with_string(tally: &mut Tally) {
+    let strings = lists_up_to(&COURSE, 1, 3);
+    let extra = lists_up_to(&COURSE, 0, 2);
+    for v in &strings {
+        for flag in [0, 1] {
+            for p in grid(&[-1.0, -0.0, 0.5, 1.0]) {
+                send(tally, Request::new(Call::Along, &[&p, &[], v, &v[..3]]).flags(0, flag));
+            }
+            for leg in lists(&COURSE, 2) {
+                send(tally, Request::new(Call::LegCrossings, &[&leg, &[], v]).flags(0, flag));
+                send(tally, Request::new(Call::SameSide, &[&leg, &[], v]).flags(0, flag));
+            }
+            for points in &extra {
+                send(tally, Request::new(Call::InsertVertices, &[v, &[], points]).flags(flag, 0));
+                send(tally, Request::new(Call::Split, &[v, &[], points]).flags(flag, 0));
+            }
+        }
+    }
+    for leg in lists(&grid(&[0.0, 0.5, 1.0]), 2) {
+        for points in lists_up_to(&grid(&[0.0, 1.0]), 0, 3) {
+            send(tally, Request::new(Call::SplitLeg, &[&leg, &[], &points]));
+        }
+    }
+}
+
+pub fn run(tally: &mut Tally, _: u64) {
+    points(tally);
+    one_string(tally);
+    lengths(tally);
+    two_strings(tally);
+    with_string(tally);
+}

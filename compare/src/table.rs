@@ -1,0 +1,59 @@
+//! Document 01's table of refusals, read independently of the proved library: the list checks of each call, in number order within
+//! a list, and the lists in the sequence that it gives.
+use crate::request::{Call, Request};
+
+const MOST: usize = 3 * 1024;
+
+fn first(checks: &[(bool, u32)]) -> u32 {
+    checks.iter().find(|c| c.0).map_or(0, |c| c.1)
+}
+
+fn in_turn(numbers: &[u32]) -> u32 {
+    numbers.iter().copied().find(|n| *n != 0).unwrap_or(0)
+}
+
+fn outside(list: &[f64]) -> bool {
+    list.iter().any(|x| !(-1.0..=1.0).contains(x))
+}
+
+/// points or a leg by themselves
+fn single(list: &[f64]) -> u32 {
+    first(&[(outside(list), 4)])
+}
+
+fn stored(v: &[f64]) -> u32 {
+    first(&[(v.len() % 3 != 0 || v.is_empty(), 1), (v.len() > MOST, 3), (outside(v), 4)])
+}
+
+fn extra(list: &[f64]) -> u32 {
+    first(&[(list.len() % 3 != 0, 1), (list.len() > MOST, 3), (outside(list), 4)])
+}
+
+fn to_build(v: &[f64]) -> u32 {
+    first(&[(v.len() % 3 != 0, 1), (v.len() < 6, 2), (v.len() > MOST, 3), (outside(v), 4)])
+}
+
+fn to_halve(v: &[f64], closed: bool) -> u32 {
+    first(&[(v.len() % 3 != 0 || v.is_empty(), 1), (!closed && v.len() == 3, 2), (v.len() > MOST, 3), (outside(v), 4)])
+}
+
+/// the number of the first check that refuses, 0 where none does
+pub fn refusal(r: &Request) -> u32 {
+    let [a, a_near, b, b_near] = &r.lists;
+    match r.call {
+        Call::XyzEq | Call::XyzsCoplanar | Call::Point => single(a),
+        Call::Pair => in_turn(&[single(a), single(b)]),
+        Call::Build | Call::BuildFlagged => to_build(a),
+        Call::WalkBack | Call::Restart | Call::CrossingsWithSelf | Call::CrossesSelf | Call::TurnOrientations | Call::Simplify => stored(a),
+        Call::Run => 0,
+        Call::LegCrossings | Call::SameSide => in_turn(&[single(a), stored(b)]),
+        Call::Crossings | Call::Count => in_turn(&[stored(a), stored(b)]),
+        Call::Midpoints => to_halve(a, r.flags[0] != 0),
+        Call::Along => in_turn(&[stored(b), stored(b_near), single(a)]),
+        Call::InsertVertices | Call::Split => in_turn(&[stored(a), extra(b)]),
+        Call::SplitLeg => in_turn(&[single(a), extra(b)]),
+        Call::Eq | Call::Equals | Call::Crosses | Call::Overlaps => in_turn(&[stored(a), stored(a_near), stored(b), stored(b_near)]),
+        Call::Within => in_turn(&[stored(a), stored(b), stored(b_near)]),
+        Call::Contains => in_turn(&[stored(a), stored(a_near), stored(b)]),
+    }
+}

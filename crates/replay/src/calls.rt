@@ -1,0 +1,56 @@
+// Which function runs a call, and what the calls share: what stands in a place before a call, and a list's floats one by one.
+use crate::crossings;
+use crate::read::Request;
+use crate::verdicts;
+use crate::vertices;
+
+// What every place holds before a call, so that what is not written shows.
+pub const FLOAT: f64 = -7.25;
+
+pub const BYTE: u8 = 0xA5;
+
+pub const NUMBER: usize = 0x5A5A_5A5A;
+
+pub const COUNT: u64 = 0x5A5A_5A5A;
+
+// A float of a list; a NaN past its end.
+pub fn at(list: &[f64], i: usize) -> f64 {
+    if i < list.len() {
+        return list[i];
+    }
+    0.0 / 0.0
+}
+
+// The first six floats of a list: a leg.
+pub fn six(list: &[f64]) -> [f64; 6] {
+    [
+        at(list, 0),
+        at(list, 1),
+        at(list, 2),
+        at(list, 3),
+        at(list, 4),
+        at(list, 5),
+    ]
+}
+
+// The call of a request run, and what it returned and left printed. The numbers of the calls:
+//
+//      0 xyz_eq         1 xyzs_coplanar   2 point                 3 build              4 build_flagged  5 walk_back   6 restart
+//      7 run            8 pair            9 leg_crossings        10 crossings         11 count         12 crossings_with_self
+//     13 crosses_self  14 same_side      15 turn_orientations    16 midpoints         17 along         18 simplify
+//     19 insert_vertices                 20 split_leg            21 split             22 eq            23 equals
+//     24 crosses       25 overlaps       26 within               27 contains
+pub fn answer(q: Request, a: &[f64], a_near: &[f64], b: &[f64], b_near: &[f64]) {
+    let call = q.call;
+    match call {
+        2 => vertices::point(a),
+        7 => vertices::run(q, a),
+        8 => crossings::pair(a, b),
+        9 | 10 | 12 => crossings::listing(q, a, b),
+        11 => crossings::count(q, a, b),
+        3..=6 | 15 | 16 | 18 | 19 | 20 => vertices::written(q, a, b),
+        21 => vertices::split(q, a, b),
+        0 | 1 | 13 | 14 | 17 => verdicts::on_string(q, a, b, b_near),
+        _ => verdicts::relation(q, a, a_near, b, b_near),
+    }
+}

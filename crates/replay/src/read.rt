@@ -1,0 +1,194 @@
+// What is read of standard input: words, lists of floats, and the words of a request that stand before its lists.
+ghost use mathlib.Core.Path.{_≡_};
+ghost use Prim.Native.Nat.{_≤_};
+ghost use lib.ListN.{length, take};
+use textform::read;
+use textform::read::Digit;
+
+// The number of a word, unless the input ends or has no digits there.
+enum Word {
+    Value(u64),
+    None,
+}
+
+// The same where the number is at most 255.
+enum Small {
+    Value(u8),
+    None,
+}
+
+// The words before the lists: the call, two flags, two positions, and the rooms of the floats, bytes and numbers lent.
+pub struct Request {
+    pub call: u8,
+    pub first_flag: u8,
+    pub second_flag: u8,
+    pub first: usize,
+    pub second: usize,
+    pub floats: u8,
+    pub bytes: u8,
+    pub numbers: u8,
+}
+
+// A request, unless its words are not there whole or its call is unknown.
+pub enum Asked {
+    Request(Request),
+    None,
+}
+
+// Whether a list was there whole, and how many floats it has.
+pub struct Listed {
+    pub whole: bool,
+    pub length: usize,
+}
+
+fn wide(x: u8) -> u64
+    ensures { λ r. ⌜ r ≡ x ⌝ }
+{
+    x as u64
+}
+
+// The number of 16 hexadecimal digits, whatever the byte after them is. Four bits a digit: what is left of a number before the next
+// digit is below 2^60, and a digit below 16.
+fn number(bytes: &[u8; 17]) -> Word {
+    let mut word = 0;
+    let mut i = 0;
+    while i < 16 {
+        let digit = read::hex_digit(bytes[i]);
+        let Digit::Value(d) = digit else {
+            return Word::None;
+        };
+        word = word % 0x1000_0000_0000_0000 * 16 + wide(d % 16);
+        i += 1;
+    }
+    Word::Value(word)
+}
+
+fn read_word() -> Word {
+    let mut bytes = [0u8; 17];
+    let count = io::read_full(0, &mut bytes);
+    if count < 17 {
+        return Word::None;
+    }
+    number(&bytes)
+}
+
+fn read_small() -> Small {
+    let word = read_word();
+    let Word::Value(n) = word else {
+        return Small::None;
+    };
+    if n > 255 {
+        return Small::None;
+    }
+    Small::Value(n as u8)
+}
+
+pub fn read_request() -> Asked {
+    let Small::Value(call) = read_small() else {
+        return Asked::None;
+    };
+    let Small::Value(first_flag) = read_small() else {
+        return Asked::None;
+    };
+    let Small::Value(second_flag) = read_small() else {
+        return Asked::None;
+    };
+    let Word::Value(first) = read_word() else {
+        return Asked::None;
+    };
+    let Word::Value(second) = read_word() else {
+        return Asked::None;
+    };
+    let Small::Value(floats) = read_small() else {
+        return Asked::None;
+    };
+    let Small::Value(bytes) = read_small() else {
+        return Asked::None;
+    };
+    let Small::Value(numbers) = read_small() else {
+        return Asked::None;
+    };
+    if call > 27 {
+        return Asked::None;
+    }
+    Asked::Request(Request {
+        call,
+        first_flag,
+        second_flag,
+        first: first as usize,
+        second: second as usize,
+        floats,
+        bytes,
+        numbers,
+    })
+}
+
+// The float of 64 bits; every pattern of a NaN stands for a NaN.
+fn float_of(bits: u64) -> f64 {
+    let rest = bits % 0x8000_0000_0000_0000;
+    if rest > 0x7FF0_0000_0000_0000 {
+        return 0.0 / 0.0;
+    }
+    read::coordinate(bits)
+}
+
+// The first floats of a list read; false where the list has not as many, or the input.
+fn read_floats(list: &mut [f64], count: usize) -> bool {
+    if count > list.len() {
+        return false;
+    }
+    let mut i = 0;
+    while i < count {
+        let word = read_word();
+        let Word::Value(bits) = word else {
+            return false;
+        };
+        list[i] = float_of(bits);
+        i += 1;
+    }
+    true
+}
+
+// The first floats of a list over and over, to its end.
+fn repeat(list: &mut [f64], period: usize) {
+    let mut i = period;
+    while i < list.len() {
+        list[i] = list[i - period];
+        i += 1;
+    }
+}
+
+// A list read: its length, its period, and as many floats as the period, which the rest of it repeats.
+pub fn read_list(list: &mut [f64]) -> Listed
+    ensures { λ r. ⌜ (r .length ≤ length (now (list .exit))) × (r .length ≡ length (take (r .length) (now (list .exit)))) ⌝ }
+{
+    let none = Listed {
+        whole: false,
+        length: 0,
+    };
+    let Word::Value(length) = read_word() else {
+        return none;
+    };
+    let Word::Value(period) = read_word() else {
+        return none;
+    };
+    let length = length as usize;
+    let period = period as usize;
+    if length > list.len() {
+        return none;
+    }
+    if period == 0 {
+        return Listed {
+            whole: length == 0,
+            length: 0,
+        };
+    }
+    if !read_floats(list, period) {
+        return none;
+    }
+    repeat(list, period);
+    Listed {
+        whole: true,
+        length,
+    }
+}
