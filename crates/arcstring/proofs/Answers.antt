@@ -7,7 +7,7 @@ use Rattle.arcstring.specs.declared.check.Refusal.the-variants.{NotTripl
 use Rattle.arcstring.specs.declared.check.Checked.{Checked}
 use Rattle.arcstring.specs.declared.check.Checked.the-variants.{Accepted, Refused}
 use Rattle.arcstring.specs.Check.{checkNumber}
-use Rattle.arcstring.specs.Answer.{Answer, refused, answered, unlessRefused, firstOf, refusalNumber}
+use Rattle.arcstring.specs.Answer.{Answer, refused, answered, unlessRefused, andThen, firstOf, refusalNumber}
 
 at-refusal : {A : Type 0} (e : Refusal) (x : Answer A) → refused (refusalNumber e) ≡ unlessRefused (refusalNumber e) x
 at-refusal NotTriples x = refl
@@ -106,3 +106,12 @@ module _ {A : Type 0} (k : Checked) where
   pub answer-accepted-in-four : (j l m n : ℕ) (x : Answer A) → k ≡ Accepted → checkNumber k ≡ firstOf j (firstOf l (firstOf m n))
       → x ≡ unlessRefused j (unlessRefused l (unlessRefused m (unlessRefused n x)))
   answer-accepted-in-four j l m n x h g = answer-accepted-in-three k j l (firstOf m n) x h g ∙ ap (λ (y : Answer A). unlessRefused j (unlessRefused l y)) (in-turn m n x)
+
+-- ---- what follows an answer, and a refusal
+
+module _ {A B : Type 0} (a : Answer A) (f : A → Answer B) where
+  pub then-refused : (n : ℕ) → a ≡ refused n → andThen a f ≡ refused n
+  then-refused n h = ap (λ (x : Answer A). andThen x f) h
+
+  pub then-answered : (x : A) → a ≡ answered x → andThen a f ≡ f x
+  then-answered x h = ap (λ (y : Answer A). andThen y f) h

@@ -41,6 +41,11 @@ module _ {A : Type 0} where
   leaves (refused n) old = old
   leaves (answered new) old = new ++ drop (length new) old
 
+-- a verdict, or whether a string is closed, as it is written: 1 or 0
+abbrev pub flagNumber : Bool → ℕ
+flagNumber true = 1
+flagNumber false = 0
+
 -- one of two by a test
 abbrev pub pick : {A : Type 0} → Bool → A → A → A
 pick true x y = x

@@ -1,7 +1,7 @@
 -- The checks of document 01's table on what is handed in, each list's in number order: 0 where all is well, else the number of the first refusal. Definitions only.
 use mathlib.Core.Bool.{Bool, true, false, not, _&&_}
 use mathlib.Core.List.{List, [], _∷_}
-use Prim.Native.Nat.{ℕ, _/_, _%_}
+use Prim.Native.Nat.{ℕ, _*_, _/_, _%_}
 use lib.ListN.{length, getD}
 use lib.Dec.{ltb, eqb}
 use lib.Ieee.{Float, fin, le}
@@ -9,7 +9,7 @@ use lib.IntN.{pos}
 use Rattle.sphericalpoint.specs.declared.SphericalPoint.{SphericalPoint}
 use Rattle.arcstring.specs.declared.check.Checked.{Checked}
 use Rattle.arcstring.specs.declared.check.Checked.the-variants.{Accepted, Refused}
-use Rattle.arcstring.specs.Answer.{numberIf, firstOf, refusalNumber}
+use Rattle.arcstring.specs.Answer.{Answer, answered, unlessRefused, numberIf, firstOf, refusalNumber}
 
 -- what a check's answer is in document 01's numbers
 abbrev pub checkNumber : Checked → ℕ
@@ -44,3 +44,7 @@ pointCheck p = numberIf (not (inRange (p .x) && inRange (p .y) && inRange (p .z)
 -- 7: the finished answer, of so many elements, is longer than the buffer lent for it
 unfoldable pub roomCheck : ℕ → ℕ → ℕ
 roomCheck needed lent = numberIf (ltb lent needed) 7
+
+-- a finished list of points, into a buffer of so many floats
+unfoldable pub intoRoom : ℕ → List SphericalPoint → Answer (List SphericalPoint)
+intoRoom room ps = unlessRefused (roomCheck (3 * length ps) room) (answered ps)

@@ -5,11 +5,4 @@ pub mod Check
 pub mod Point
 pub mod Build
 pub mod Walk
-pub mod Crossing
-pub mod Plane
-pub mod Listing
-pub mod Tally
-pub mod Changes
-pub mod OnString
-pub mod Relation
-pub mod Measure
+pub mod Work

@@ -33,3 +33,7 @@ pub record ArcString : Type 0 where
   pub vertices : List SphericalPoint
   pub near : List SphericalPoint
   pub closed : Bool
+
+-- The Rust's clone: the copy's near list is made anew, of its own vertices; the original keeps its own.
+unfoldable pub copied : ArcString → ArcString
+copied s = record { vertices = s .vertices; near = s .vertices; closed = s .closed }

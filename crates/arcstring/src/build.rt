@@ -1,4 +1,5 @@
-// A string built from a list of points, as the source's `try_from` and `try_new` build it.
+// A string built from a list of points, as the source's `try_from` and `try_new` build it. Users call `build` and
+// `build_flagged`; the functions with a `requires` are for the crates of the string layer.
 ghost use mathlib.Core.Path.{_≡_};
 ghost use mathlib.Core.List.{_++_};
 ghost use Prim.Native.Nat.{_*_, _≤_};
@@ -19,7 +20,7 @@ pub enum Built {
 }
 
 // The first `n` points of a list, normalised in place.
-pub(crate) fn normalize_points(out: &mut [f64], n: usize)
+pub fn normalize_points(out: &mut [f64], n: usize)
     requires { ⌜ 3 * n ≤ length (now out) ⌝ }
     ensures { λ _. ⌜ now (out .exit) ≡ flat (normalizedAll (points (take (3 * n) (now (out .entry))))) ++ drop (3 * n) (now (out .entry)) ⌝ }
 {

@@ -6,13 +6,13 @@ use mathlib.Core.Option.{Option, none, some}
 use Prim.Native.Nat.{ℕ}
 use lib.ListN.{length}
 use lib.Ieee.{Float}
-use Rattle.arcstring.specs.declared.listing.Counts.{Counts}
-use Rattle.arcstring.specs.Answer.{Answer, refused, answered, mapAnswer, leaves}
+use Rattle.arcstring.specs.Answer.{Answer, refused, answered, mapAnswer, leaves, flagNumber}
 use Rattle.arcstring.specs.Points.{ArcString}
 use Rattle.arcstring.specs.Build.{builtResult}
-use Rattle.arcstring.specs.Listing.{Listing, listedResult, listedFloats, listedBytes}
-use Rattle.arcstring_edit.specs.SplitLeg.{pieceCount}
-use Rattle.arcstring_c.specs.Numbers.{answerNumber, leftIn, pieceNumber, piecesWritten, flagByte, vertexCount, closedByte, keptCount, listingCounts, listedKept, listedCounts}
+use Rattle.arcstring_crossing.specs.declared.listing.Counts.{Counts}
+use Rattle.arcstring_crossing.specs.Listing.{Listing, listedResult, listedFloats, listedBytes}
+use Rattle.arcstring_split.specs.SplitLeg.{pieceCount}
+use Rattle.arcstring_c.specs.Numbers.{answerNumber, leftIn, pieceNumber, piecesWritten, vertexCount, closedByte, keptCount, listingCounts, listedKept, listedCounts}
 
 -- ---- where the answer b is the answer a
 
@@ -24,8 +24,8 @@ module _ {A : Type 0} {a b : Answer A} (h : b ≡ a) where
   place-as part old p = p ∙ ap (λ (y : Answer A). leftIn part y old) h
 
 -- a verdict
-pub decided-as : (a : Answer Bool) {b : Answer Bool} {n y : ℕ} (old : ℕ) → b ≡ a → (n ≡ answerNumber b) × (y ≡ leftIn flagByte b old) → (n ≡ answerNumber a) × (y ≡ leftIn flagByte a old)
-decided-as a old h p = (number-as h (p .0), place-as h flagByte old (p .1))
+pub decided-as : (a : Answer Bool) {b : Answer Bool} {n y : ℕ} (old : ℕ) → b ≡ a → (n ≡ answerNumber b) × (y ≡ leftIn flagNumber b old) → (n ≡ answerNumber a) × (y ≡ leftIn flagNumber a old)
+decided-as a old h p = (number-as h (p .0), place-as h flagNumber old (p .1))
 
 -- ---- where the answer b is a part of the answer a
 
@@ -56,8 +56,8 @@ module _ (a : Answer ArcString) {b : Answer (ℕ × Bool)} (h : b ≡ builtResul
   pub built-count : (old : ℕ) {x : ℕ} → x ≡ leftIn (λ (r : ℕ × Bool). r .0) b old → x ≡ leftIn vertexCount a old
   built-count old p = place-of builtPart a h (λ (r : ℕ × Bool). r .0) old p
 
-  pub built-closed : (old : ℕ) {x : ℕ} → x ≡ leftIn (λ (r : ℕ × Bool). flagByte (r .1)) b old → x ≡ leftIn closedByte a old
-  built-closed old p = place-of builtPart a h (λ (r : ℕ × Bool). flagByte (r .1)) old p
+  pub built-closed : (old : ℕ) {x : ℕ} → x ≡ leftIn (λ (r : ℕ × Bool). flagNumber (r .1)) b old → x ≡ leftIn closedByte a old
+  built-closed old p = place-of builtPart a h (λ (r : ℕ × Bool). flagNumber (r .1)) old p
 
 -- points or floats that were written
 module _ {A : Type 0} (a : Answer (List A)) {b : Answer ℕ} (h : b ≡ mapAnswer length a) where

@@ -7,15 +7,15 @@ use lib.Dec.{eqb}
 use lib.ListN.{length, getD}
 use lib.Ieee.{Float, nan}
 use Rattle.sphericalpoint.specs.declared.SphericalPoint.{SphericalPoint}
-use Rattle.arcstring.specs.declared.crossing.Pair.{Pair}
-use Rattle.arcstring.specs.declared.crossing.Pair.the-variants.{Clean, End, Grazing, Apart}
-use Rattle.arcstring.specs.declared.crossing.Outcome.the-variants.{Kept, Dropped}
-use Rattle.arcstring.specs.declared.listing.Counts.{Counts}
-use Rattle.arcstring.specs.Answer.{Answer, refused, answered, pick}
+use Rattle.arcstring.specs.Answer.{Answer, refused, answered, pick, flagNumber}
 use Rattle.arcstring.specs.Points.{ArcString, point}
-use Rattle.arcstring.specs.Crossing.{Leg, leg}
 use Rattle.arcstring.specs.Walk.{runOf}
-use Rattle.arcstring.specs.Listing.{Listing}
+use Rattle.arcstring_crossing.specs.declared.crossing.Pair.{Pair}
+use Rattle.arcstring_crossing.specs.declared.crossing.Pair.the-variants.{Clean, End, Grazing, Apart}
+use Rattle.arcstring_crossing.specs.declared.crossing.Outcome.the-variants.{Kept, Dropped}
+use Rattle.arcstring_crossing.specs.declared.listing.Counts.{Counts}
+use Rattle.arcstring_crossing.specs.Crossing.{Leg, leg}
+use Rattle.arcstring_crossing.specs.Listing.{Listing}
 
 -- 0, or the number of the refusal
 abbrev pub answerNumber : {A : Type 0} → Answer A → ℕ
@@ -30,11 +30,6 @@ leftIn part (answered x) old = part x
 -- a flag is 0 for open and anything else for closed
 abbrev pub flag : ℕ → Bool
 flag n = not (eqb n 0)
-
--- a verdict, or whether a string is closed: 0 or 1
-abbrev pub flagByte : Bool → ℕ
-flagByte true = 1
-flagByte false = 0
 
 abbrev pub threeFloats : SphericalPoint → List Float
 threeFloats p = p .x ∷ p .y ∷ p .z ∷ []
@@ -73,7 +68,7 @@ abbrev pub vertexCount : ArcString → ℕ
 vertexCount s = length (s .vertices)
 
 abbrev pub closedByte : ArcString → ℕ
-closedByte s = flagByte (s .closed)
+closedByte s = flagNumber (s .closed)
 
 -- clean, end, grazing, apart
 abbrev pub fourCounts : Counts → List ℕ

@@ -1,17 +1,17 @@
 // Strings simplified, with vertices inserted and split, and the comparisons that simplify copies.
 ghost use mathlib.Core.Path.{_≡_};
 ghost use lib.ListN.{length};
-ghost use Rattle.arcstring.specs.Answer.{leaves, mapAnswer};
+ghost use Rattle.arcstring.specs.Answer.{leaves, mapAnswer, flagNumber};
 ghost use Rattle.arcstring.specs.Walk.{writtenAnswer, writtenFloats};
-ghost use Rattle.arcstring_edit.specs.Simplify.{simplify};
-ghost use Rattle.arcstring_edit.specs.Insert.{insertVertices};
-ghost use Rattle.arcstring_edit.specs.SplitLeg.{splitLeg, splitAnswer, ofPieces, legFloats};
-ghost use Rattle.arcstring_edit.specs.Split.{splitString, pieceFloats, pieceCounts, pieceFlags};
-ghost use Rattle.arcstring_edit.specs.Relation.{equals, overlaps};
-ghost use Rattle.arcstring_c.specs.Numbers.{answerNumber, leftIn, flag, flagByte, legOfSix, pieceNumber, piecesWritten};
+ghost use Rattle.arcstring_simplify.specs.Simplify.{simplify};
+ghost use Rattle.arcstring_simplify.specs.Relation.{equals, overlaps};
+ghost use Rattle.arcstring_split.specs.Insert.{insertVertices};
+ghost use Rattle.arcstring_split.specs.SplitLeg.{splitLeg, splitAnswer, ofPieces, legFloats};
+ghost use Rattle.arcstring_split.specs.Split.{splitString, pieceFloats, pieceCounts, pieceFlags};
+ghost use Rattle.arcstring_c.specs.Numbers.{answerNumber, leftIn, flag, legOfSix, pieceNumber, piecesWritten};
 use arcstring::check;
 use arcstring::walk::Written;
-use arcstring_edit::split::Split;
+use arcstring_split::split::Split;
 
 // How many vertices were written, put into its place, or the refusal's number.
 fn written(w: Written, count: &mut usize) -> u32
@@ -55,7 +55,7 @@ pub extern "C" fn arcstring_simplify(
     ensures { λ _. ⌜ now (count .exit) ≡ leftIn length (simplify (now (v .entry)) (flag closed) (length (now (out .entry)))) (now (count .entry)) ⌝ }
 {
     written(
-        arcstring_edit::simplify::simplify(v, crate::is_closed(closed), out),
+        arcstring_simplify::simplify::simplify(v, crate::is_closed(closed), out),
         count,
     )
 }
@@ -73,7 +73,7 @@ pub extern "C" fn arcstring_insert_vertices(
     ensures { λ _. ⌜ now (count .exit) ≡ leftIn length (insertVertices (now (v .entry)) (flag closed) (now (points .entry)) (length (now (out .entry)))) (now (count .entry)) ⌝ }
 {
     written(
-        arcstring_edit::insert::insert_vertices(v, crate::is_closed(closed), points, out),
+        arcstring_split::insert::insert_vertices(v, crate::is_closed(closed), points, out),
         count,
     )
 }
@@ -90,7 +90,7 @@ pub extern "C" fn arcstring_split_leg(
     ensures { λ _. ⌜ now (pieces .exit) ≡ leftIn piecesWritten (splitLeg (legOfSix (now (leg .entry))) (now (points .entry)) (length (now (out .entry)))) (now (pieces .entry)) ⌝ }
 {
     cut(
-        arcstring_edit::split::split_arc_at_points(crate::leg_of(leg), points, out),
+        arcstring_split::split::split_arc_at_points(crate::leg_of(leg), points, out),
         pieces,
     )
 }
@@ -112,7 +112,7 @@ pub extern "C" fn arcstring_split(
     ensures { λ _. ⌜ now (pieces .exit) ≡ leftIn piecesWritten (splitString (now (v .entry)) (flag closed) (now (points .entry)) (length (now (out .entry))) (length (now (counts .entry))) (length (now (flags .entry)))) (now (pieces .entry)) ⌝ }
 {
     cut(
-        arcstring_edit::split::split_arcstring_at_points(
+        arcstring_split::split::split_arcstring_at_points(
             v,
             crate::is_closed(closed),
             points,
@@ -135,10 +135,10 @@ pub extern "C" fn arcstring_equals(
     yes: &mut u8,
 ) -> u32
     ensures { λ r. ⌜ r ≡ answerNumber (equals (now (a .entry)) (now («a_near» .entry)) (flag «a_closed») (now (b .entry)) (now («b_near» .entry)) (flag «b_closed»)) ⌝ }
-    ensures { λ _. ⌜ now (yes .exit) ≡ leftIn flagByte (equals (now (a .entry)) (now («a_near» .entry)) (flag «a_closed») (now (b .entry)) (now («b_near» .entry)) (flag «b_closed»)) (now (yes .entry)) ⌝ }
+    ensures { λ _. ⌜ now (yes .exit) ≡ leftIn flagNumber (equals (now (a .entry)) (now («a_near» .entry)) (flag «a_closed») (now (b .entry)) (now («b_near» .entry)) (flag «b_closed»)) (now (yes .entry)) ⌝ }
 {
     crate::decide(
-        arcstring_edit::relation::equals(
+        arcstring_simplify::relation::equals(
             a,
             a_near,
             crate::is_closed(a_closed),
@@ -161,10 +161,10 @@ pub extern "C" fn arcstring_overlaps(
     yes: &mut u8,
 ) -> u32
     ensures { λ r. ⌜ r ≡ answerNumber (overlaps (now (a .entry)) (now («a_near» .entry)) (flag «a_closed») (now (b .entry)) (now («b_near» .entry)) (flag «b_closed»)) ⌝ }
-    ensures { λ _. ⌜ now (yes .exit) ≡ leftIn flagByte (overlaps (now (a .entry)) (now («a_near» .entry)) (flag «a_closed») (now (b .entry)) (now («b_near» .entry)) (flag «b_closed»)) (now (yes .entry)) ⌝ }
+    ensures { λ _. ⌜ now (yes .exit) ≡ leftIn flagNumber (overlaps (now (a .entry)) (now («a_near» .entry)) (flag «a_closed») (now (b .entry)) (now («b_near» .entry)) (flag «b_closed»)) (now (yes .entry)) ⌝ }
 {
     crate::decide(
-        arcstring_edit::relation::overlaps(
+        arcstring_simplify::relation::overlaps(
             a,
             a_near,
             crate::is_closed(a_closed),

@@ -5,14 +5,14 @@ ghost use mathlib.Core.Path.{_≡_};
 ghost use Prim.Native.Nat.{_*_, _^_, _<_};
 ghost use lib.Dec.{eqb};
 ghost use lib.ListN.{length};
-ghost use Rattle.arcstring.specs.Answer.{leaves, pick};
+ghost use Rattle.arcstring.specs.Answer.{leaves, pick, flagNumber};
 ghost use Rattle.arcstring.specs.Points.{point};
 ghost use Rattle.arcstring.specs.Point.{equalPoints, coplanarPoints, builtPoint, decidedAnswer};
 ghost use Rattle.arcstring.specs.Build.{build, buildFlagged, builtFloats};
 ghost use Rattle.arcstring.specs.Walk.{walkBack, restart, writtenFloats};
-ghost use Rattle.arcstring.specs.Crossing.{leg, legOf, arcsCrossing};
-ghost use Rattle.arcstring.specs.Listing.{counted, crossings, legCrossings, selfCrossings, crossesSelf, sameSide, listedAnswer, listedFloats, listedBytes};
-ghost use Rattle.arcstring_c.specs.Numbers.{answerNumber, leftIn, flag, flagByte, threeFloats, legOfSix, classNumber, keptByte, pairPoint, vertexCount, closedByte, fourCounts, keptCount, listingCounts, listedKept, listedCounts, runLength, runStart};
+ghost use Rattle.arcstring_crossing.specs.Crossing.{leg, legOf, arcsCrossing};
+ghost use Rattle.arcstring_crossing.specs.Listing.{counted, crossings, legCrossings, selfCrossings, crossesSelf, sameSide, listedAnswer, listedFloats, listedBytes};
+ghost use Rattle.arcstring_c.specs.Numbers.{answerNumber, leftIn, flag, threeFloats, legOfSix, classNumber, keptByte, pairPoint, vertexCount, closedByte, fourCounts, keptCount, listingCounts, listedKept, listedCounts, runLength, runStart};
 
 pub mod edit;
 pub mod measure;
@@ -21,18 +21,18 @@ pub mod near;
 use arcstring::build::Built;
 use arcstring::check;
 use arcstring::check::Decided;
-use arcstring::crossing::Crossed;
-use arcstring::crossing::Outcome;
-use arcstring::crossing::Pair;
-use arcstring::listing::Counted;
-use arcstring::listing::Counts;
-use arcstring::listing::Listed;
 use arcstring::point::Pointed;
 use arcstring::walk::Written;
+use arcstring_crossing::crossing::Crossed;
+use arcstring_crossing::crossing::Outcome;
+use arcstring_crossing::crossing::Pair;
+use arcstring_crossing::listing::Counted;
+use arcstring_crossing::listing::Counts;
+use arcstring_crossing::listing::Listed;
 use sphericalpoint::SphericalPoint;
 
 fn byte(yes: bool) -> u8
-    ensures { λ r. ⌜ r ≡ flagByte yes ⌝ }
+    ensures { λ r. ⌜ r ≡ flagNumber yes ⌝ }
 {
     if yes { 1 } else { 0 }
 }
@@ -63,7 +63,7 @@ fn put_counts(out: &mut [u64; 4], c: Counts)
 
 // A verdict put into its place, or its refusal's number.
 pub(crate) fn decide(d: Decided, yes: &mut u8) -> u32
-    ensures { λ r. ⌜ (r ≡ answerNumber (decidedAnswer d)) × (now (yes .exit) ≡ leftIn flagByte (decidedAnswer d) (now (yes .entry))) ⌝ }
+    ensures { λ r. ⌜ (r ≡ answerNumber (decidedAnswer d)) × (now (yes .exit) ≡ leftIn flagNumber (decidedAnswer d) (now (yes .entry))) ⌝ }
 {
     match d {
         Decided::Refused(e) => check::number(e),
@@ -85,7 +85,7 @@ pub extern "C" fn arcstring_xyz_eq(
     yes: &mut u8,
 ) -> u32
     ensures { λ r. ⌜ r ≡ answerNumber (equalPoints (point ax ay az) (point bx «by» bz)) ⌝ }
-    ensures { λ _. ⌜ now (yes .exit) ≡ leftIn flagByte (equalPoints (point ax ay az) (point bx «by» bz)) (now (yes .entry)) ⌝ }
+    ensures { λ _. ⌜ now (yes .exit) ≡ leftIn flagNumber (equalPoints (point ax ay az) (point bx «by» bz)) (now (yes .entry)) ⌝ }
 {
     let a = SphericalPoint::new(ax, ay, az);
     let b = SphericalPoint::new(bx, by, bz);
@@ -106,7 +106,7 @@ pub extern "C" fn arcstring_xyzs_coplanar(
     yes: &mut u8,
 ) -> u32
     ensures { λ r. ⌜ r ≡ answerNumber (coplanarPoints (point ax ay az) (point bx «by» bz) (point cx cy cz)) ⌝ }
-    ensures { λ _. ⌜ now (yes .exit) ≡ leftIn flagByte (coplanarPoints (point ax ay az) (point bx «by» bz) (point cx cy cz)) (now (yes .entry)) ⌝ }
+    ensures { λ _. ⌜ now (yes .exit) ≡ leftIn flagNumber (coplanarPoints (point ax ay az) (point bx «by» bz) (point cx cy cz)) (now (yes .entry)) ⌝ }
 {
     let a = SphericalPoint::new(ax, ay, az);
     let b = SphericalPoint::new(bx, by, bz);
@@ -248,7 +248,7 @@ pub extern "C" fn arcstring_pair(
     ensures { λ _. ⌜ now (kept .exit) ≡ leftIn keptByte (arcsCrossing (legOfSix (now (a .entry))) (legOfSix (now (b .entry)))) (now (kept .entry)) ⌝ }
     ensures { λ _. ⌜ now (point .exit) ≡ leftIn (pairPoint (now (point .entry))) (arcsCrossing (legOfSix (now (a .entry))) (legOfSix (now (b .entry)))) (now (point .entry)) ⌝ }
 {
-    let r = arcstring::crossing::arcs_crossing(leg_of(a), leg_of(b));
+    let r = arcstring_crossing::crossing::arcs_crossing(leg_of(a), leg_of(b));
     match r {
         Crossed::Refused(e) => check::number(e),
         Crossed::Pair(p) => {
@@ -321,7 +321,7 @@ pub extern "C" fn arcstring_count(
     ensures { λ r. ⌜ r ≡ answerNumber (counted (now (a .entry)) (flag «a_closed») (now (b .entry)) (flag «b_closed»)) ⌝ }
     ensures { λ _. ⌜ now (counts .exit) ≡ leftIn fourCounts (counted (now (a .entry)) (flag «a_closed») (now (b .entry)) (flag «b_closed»)) (now (counts .entry)) ⌝ }
 {
-    let r = arcstring::listing::count(a, is_closed(a_closed), b, is_closed(b_closed));
+    let r = arcstring_crossing::listing::count(a, is_closed(a_closed), b, is_closed(b_closed));
     match r {
         Counted::Refused(e) => check::number(e),
         Counted::Counts(c) => {
@@ -361,7 +361,7 @@ pub extern "C" fn arcstring_leg_crossings(
     ensures { λ _. ⌜ now (kept .exit) ≡ leftIn keptCount (legCrossings (legOfSix (now (leg .entry))) (now (v .entry)) (flag closed) (length (now (points .entry))) (length (now (marks .entry)))) (now (kept .entry)) ⌝ }
     ensures { λ _. ⌜ now (counts .exit) ≡ leftIn listingCounts (legCrossings (legOfSix (now (leg .entry))) (now (v .entry)) (flag closed) (length (now (points .entry))) (length (now (marks .entry)))) (now (counts .entry)) ⌝ }
 {
-    let r = arcstring::listing::arc_crossings_with_arcstring(
+    let r = arcstring_crossing::listing::arc_crossings_with_arcstring(
         leg_of(leg),
         v,
         is_closed(closed),
@@ -388,7 +388,7 @@ pub extern "C" fn arcstring_crossings(
     ensures { λ _. ⌜ now (kept .exit) ≡ leftIn keptCount (crossings (now (a .entry)) (flag «a_closed») (now (b .entry)) (flag «b_closed») (length (now (points .entry))) (length (now (marks .entry)))) (now (kept .entry)) ⌝ }
     ensures { λ _. ⌜ now (counts .exit) ≡ leftIn listingCounts (crossings (now (a .entry)) (flag «a_closed») (now (b .entry)) (flag «b_closed») (length (now (points .entry))) (length (now (marks .entry)))) (now (counts .entry)) ⌝ }
 {
-    let r = arcstring::listing::crossings(
+    let r = arcstring_crossing::listing::crossings(
         a,
         is_closed(a_closed),
         b,
@@ -413,16 +413,19 @@ pub extern "C" fn arcstring_crossings_with_self(
     ensures { λ _. ⌜ now (kept .exit) ≡ leftIn keptCount (selfCrossings (now (v .entry)) (length (now (points .entry))) (length (now (marks .entry)))) (now (kept .entry)) ⌝ }
     ensures { λ _. ⌜ now (counts .exit) ≡ leftIn listingCounts (selfCrossings (now (v .entry)) (length (now (points .entry))) (length (now (marks .entry)))) (now (counts .entry)) ⌝ }
 {
-    let r = arcstring::listing::crossings_with_self(v, points, marks);
+    let r = arcstring_crossing::listing::crossings_with_self(v, points, marks);
     list(r, kept, counts)
 }
 
 #[no_mangle]
 pub extern "C" fn arcstring_crosses_self(v: &[f64], closed: u8, yes: &mut u8) -> u32
     ensures { λ r. ⌜ r ≡ answerNumber (crossesSelf (now (v .entry)) (flag closed)) ⌝ }
-    ensures { λ _. ⌜ now (yes .exit) ≡ leftIn flagByte (crossesSelf (now (v .entry)) (flag closed)) (now (yes .entry)) ⌝ }
+    ensures { λ _. ⌜ now (yes .exit) ≡ leftIn flagNumber (crossesSelf (now (v .entry)) (flag closed)) (now (yes .entry)) ⌝ }
 {
-    decide(arcstring::listing::crosses_self(v, is_closed(closed)), yes)
+    decide(
+        arcstring_crossing::listing::crosses_self(v, is_closed(closed)),
+        yes,
+    )
 }
 
 #[no_mangle]
@@ -438,12 +441,12 @@ pub extern "C" fn arcstring_same_side(
     yes: &mut u8,
 ) -> u32
     ensures { λ r. ⌜ r ≡ answerNumber (sameSide (leg (point ax ay az) (point bx «by» bz)) (now (v .entry)) (flag closed)) ⌝ }
-    ensures { λ _. ⌜ now (yes .exit) ≡ leftIn flagByte (sameSide (leg (point ax ay az) (point bx «by» bz)) (now (v .entry)) (flag closed)) (now (yes .entry)) ⌝ }
+    ensures { λ _. ⌜ now (yes .exit) ≡ leftIn flagNumber (sameSide (leg (point ax ay az) (point bx «by» bz)) (now (v .entry)) (flag closed)) (now (yes .entry)) ⌝ }
 {
     let a = SphericalPoint::new(ax, ay, az);
     let b = SphericalPoint::new(bx, by, bz);
     decide(
-        arcstring::listing::points_are_on_same_side(a, b, v, is_closed(closed)),
+        arcstring_crossing::listing::points_are_on_same_side(a, b, v, is_closed(closed)),
         yes,
     )
 }

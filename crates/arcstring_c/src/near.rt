@@ -1,9 +1,10 @@
 // The calls that read a near list.
 ghost use mathlib.Core.Path.{_≡_};
+ghost use Rattle.arcstring.specs.Answer.{flagNumber};
 ghost use Rattle.arcstring.specs.Points.{point};
-ghost use Rattle.arcstring.specs.OnString.{along};
-ghost use Rattle.arcstring.specs.Relation.{equal, crosses, within, contains};
-ghost use Rattle.arcstring_c.specs.Numbers.{answerNumber, leftIn, flag, flagByte};
+ghost use Rattle.arcstring_relation.specs.OnString.{along};
+ghost use Rattle.arcstring_relation.specs.Relation.{equal, crosses, within, contains};
+ghost use Rattle.arcstring_c.specs.Numbers.{answerNumber, leftIn, flag};
 use sphericalpoint::SphericalPoint;
 
 #[no_mangle]
@@ -17,11 +18,16 @@ pub extern "C" fn arcstring_along(
     yes: &mut u8,
 ) -> u32
     ensures { λ r. ⌜ r ≡ answerNumber (along (point x y z) (now (v .entry)) (now (near .entry)) (flag closed)) ⌝ }
-    ensures { λ _. ⌜ now (yes .exit) ≡ leftIn flagByte (along (point x y z) (now (v .entry)) (now (near .entry)) (flag closed)) (now (yes .entry)) ⌝ }
+    ensures { λ _. ⌜ now (yes .exit) ≡ leftIn flagNumber (along (point x y z) (now (v .entry)) (now (near .entry)) (flag closed)) (now (yes .entry)) ⌝ }
 {
     let p = SphericalPoint::new(x, y, z);
     crate::decide(
-        arcstring::on_string::point_is_along_arcstring(p, v, near, crate::is_closed(closed)),
+        arcstring_relation::on_string::point_is_along_arcstring(
+            p,
+            v,
+            near,
+            crate::is_closed(closed),
+        ),
         yes,
     )
 }
@@ -37,10 +43,10 @@ pub extern "C" fn arcstring_eq(
     yes: &mut u8,
 ) -> u32
     ensures { λ r. ⌜ r ≡ answerNumber (equal (now (a .entry)) (now («a_near» .entry)) (flag «a_closed») (now (b .entry)) (now («b_near» .entry)) (flag «b_closed»)) ⌝ }
-    ensures { λ _. ⌜ now (yes .exit) ≡ leftIn flagByte (equal (now (a .entry)) (now («a_near» .entry)) (flag «a_closed») (now (b .entry)) (now («b_near» .entry)) (flag «b_closed»)) (now (yes .entry)) ⌝ }
+    ensures { λ _. ⌜ now (yes .exit) ≡ leftIn flagNumber (equal (now (a .entry)) (now («a_near» .entry)) (flag «a_closed») (now (b .entry)) (now («b_near» .entry)) (flag «b_closed»)) (now (yes .entry)) ⌝ }
 {
     crate::decide(
-        arcstring::relation::eq(
+        arcstring_relation::relation::eq(
             a,
             a_near,
             crate::is_closed(a_closed),
@@ -63,10 +69,10 @@ pub extern "C" fn arcstring_crosses(
     yes: &mut u8,
 ) -> u32
     ensures { λ r. ⌜ r ≡ answerNumber (crosses (now (a .entry)) (now («a_near» .entry)) (flag «a_closed») (now (b .entry)) (now («b_near» .entry)) (flag «b_closed»)) ⌝ }
-    ensures { λ _. ⌜ now (yes .exit) ≡ leftIn flagByte (crosses (now (a .entry)) (now («a_near» .entry)) (flag «a_closed») (now (b .entry)) (now («b_near» .entry)) (flag «b_closed»)) (now (yes .entry)) ⌝ }
+    ensures { λ _. ⌜ now (yes .exit) ≡ leftIn flagNumber (crosses (now (a .entry)) (now («a_near» .entry)) (flag «a_closed») (now (b .entry)) (now («b_near» .entry)) (flag «b_closed»)) (now (yes .entry)) ⌝ }
 {
     crate::decide(
-        arcstring::relation::crosses(
+        arcstring_relation::relation::crosses(
             a,
             a_near,
             crate::is_closed(a_closed),
@@ -87,10 +93,10 @@ pub extern "C" fn arcstring_within(
     yes: &mut u8,
 ) -> u32
     ensures { λ r. ⌜ r ≡ answerNumber (within (now (a .entry)) (now (b .entry)) (now («b_near» .entry)) (flag «b_closed»)) ⌝ }
-    ensures { λ _. ⌜ now (yes .exit) ≡ leftIn flagByte (within (now (a .entry)) (now (b .entry)) (now («b_near» .entry)) (flag «b_closed»)) (now (yes .entry)) ⌝ }
+    ensures { λ _. ⌜ now (yes .exit) ≡ leftIn flagNumber (within (now (a .entry)) (now (b .entry)) (now («b_near» .entry)) (flag «b_closed»)) (now (yes .entry)) ⌝ }
 {
     crate::decide(
-        arcstring::relation::within(a, b, b_near, crate::is_closed(b_closed)),
+        arcstring_relation::relation::within(a, b, b_near, crate::is_closed(b_closed)),
         yes,
     )
 }
@@ -104,10 +110,10 @@ pub extern "C" fn arcstring_contains(
     yes: &mut u8,
 ) -> u32
     ensures { λ r. ⌜ r ≡ answerNumber (contains (now (a .entry)) (now («a_near» .entry)) (flag «a_closed») (now (b .entry))) ⌝ }
-    ensures { λ _. ⌜ now (yes .exit) ≡ leftIn flagByte (contains (now (a .entry)) (now («a_near» .entry)) (flag «a_closed») (now (b .entry))) (now (yes .entry)) ⌝ }
+    ensures { λ _. ⌜ now (yes .exit) ≡ leftIn flagNumber (contains (now (a .entry)) (now («a_near» .entry)) (flag «a_closed») (now (b .entry))) (now (yes .entry)) ⌝ }
 {
     crate::decide(
-        arcstring::relation::contains(a, a_near, crate::is_closed(a_closed), b),
+        arcstring_relation::relation::contains(a, a_near, crate::is_closed(a_closed), b),
         yes,
     )
 }

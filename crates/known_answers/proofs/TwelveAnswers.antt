@@ -7,16 +7,15 @@ use Rattle.ieee754.specs.Size.{abs}
 use Rattle.sphericalpoint.specs.Sqrt.{sqrtOf}
 use Rattle.sphericalpoint.specs.Vector.{equalityTolerance, coplanarTolerance, xyzSub, xyzMul, xyzDiv, xyzNeg, xyzAbs, xyzSum, xyzDot, xyzCross, xyzLength, xyzEq, normalized}
 use Rattle.sphericalpoint.specs.Point.{betweenInPlane, xyzsCoplanar, normalizedUnlessShort}
-use Rattle.arcstring.specs.Check.{inRange, allInRange, listCheck, storedCheck, buildCheck, pointCheck, roomCheck}
+use Rattle.arcstring.specs.Check.{inRange, allInRange, listCheck, storedCheck, buildCheck, pointCheck, roomCheck, intoRoom}
 use Rattle.arcstring.specs.Point.{coplanarPoints}
 use Rattle.arcstring.specs.Build.{endsMeet, builtVertices, builtString, buildInto, build}
-use Rattle.arcstring.specs.Crossing.{normal, meeting, sideFrom, sideTo, sideValues, grazes, isAbove, isBelow, signNegative, signPositive, someSide, everySide, atEnd, keptPoint, grazingOutcome, endOrClean, classAt, pairOf, legCheck, arcsCrossing}
-use Rattle.arcstring_edit.specs.Steps.{intoRoom}
-use Rattle.arcstring_edit.specs.Simplify.{thirdPosition, unnecessary, unnecessaryFrom, unnecessaryPositions, removeAt, removeAll, isSimple, rounds, simplified, simplify}
-use Rattle.arcstring.specs.declared.crossing.Pair.the-variants.{Clean, Grazing, Apart}
-use Rattle.arcstring.specs.declared.crossing.Outcome.the-variants.{Kept}
 use Rattle.arcstring.specs.Answer.{refused, answered}
 use Rattle.arcstring.specs.Points.{point}
+use Rattle.arcstring_crossing.specs.Crossing.{normal, meeting, sideFrom, sideTo, sideValues, grazes, isAbove, isBelow, signNegative, signPositive, someSide, everySide, atEnd, keptPoint, grazingOutcome, endOrClean, classAt, pairOf, legCheck, arcsCrossing}
+use Rattle.arcstring_crossing.specs.declared.crossing.Pair.the-variants.{Clean, Grazing, Apart}
+use Rattle.arcstring_crossing.specs.declared.crossing.Outcome.the-variants.{Kept}
+use Rattle.arcstring_simplify.specs.Simplify.{thirdPosition, unnecessary, unnecessaryFrom, unnecessaryPositions, removeAt, removeAll, isSimple, rounds, simplified, simplify}
 use Rattle.known_answers.specs.Twelve.{crossing, coplanar, building, simplifying, root, nought, unit, half, pointX, pointY, crossings, coplanars, buildings, simplifyings, roots, twelve, answers}
 
 known-crossings : crossings

@@ -6,15 +6,15 @@ use lib.IntN.{pos, negsuc}
 use lib.Ieee.{Float, fin}
 use Rattle.sphericalpoint.specs.declared.SphericalPoint.{SphericalPoint}
 use Rattle.sphericalpoint.specs.Sqrt.{sqrtOf}
-use Rattle.arcstring.specs.declared.crossing.Pair.{Pair}
-use Rattle.arcstring.specs.declared.crossing.Pair.the-variants.{Clean, Grazing, Apart}
-use Rattle.arcstring.specs.declared.crossing.Outcome.the-variants.{Kept}
 use Rattle.arcstring.specs.Answer.{Answer, refused, answered}
 use Rattle.arcstring.specs.Points.{ArcString, point, flat}
 use Rattle.arcstring.specs.Point.{coplanarPoints}
 use Rattle.arcstring.specs.Build.{builtString, build}
-use Rattle.arcstring.specs.Crossing.{Leg, leg, arcsCrossing}
-use Rattle.arcstring_edit.specs.Simplify.{simplify}
+use Rattle.arcstring_crossing.specs.declared.crossing.Pair.{Pair}
+use Rattle.arcstring_crossing.specs.declared.crossing.Pair.the-variants.{Clean, Grazing, Apart}
+use Rattle.arcstring_crossing.specs.declared.crossing.Outcome.the-variants.{Kept}
+use Rattle.arcstring_crossing.specs.Crossing.{Leg, leg, arcsCrossing}
+use Rattle.arcstring_simplify.specs.Simplify.{simplify}
 
 pub data Known : Type 0 where
   crossing : Answer Pair → Known

@@ -10,22 +10,22 @@ use lib.Ieee.{Float}
 use Rattle.arcstring.specs.declared.check.Refusal.{Refusal}
 use Rattle.arcstring.specs.declared.build.Built.{Built}
 use Rattle.arcstring.specs.declared.build.Built.the-variants as B
-use Rattle.arcstring.specs.declared.listing.Counts.{Counts}
-use Rattle.arcstring.specs.declared.tally.Tally.{Tally}
 use Rattle.arcstring.specs.Answer.{Answer, refused, answered, unlessRefused, leaves, refusalNumber}
 use Rattle.arcstring.specs.Points.{ArcString, points, flat}
 use Rattle.arcstring.specs.Check.{buildCheck, roomCheck}
 use Rattle.arcstring.specs.Build.{normalizedAll, endsMeet, builtString, buildInto, build, builtAnswer, builtResult, builtFloats}
-use Rattle.arcstring.specs.Crossing.{Leg}
-use Rattle.arcstring.specs.Listing.{legs, pairsBetween, countsOf}
-use Rattle.arcstring.specs.Tally.{noTally, tallyOn, tallyCounts, legsFrom, legCount}
 use Rattle.arcstring.proofs.Answers.{refuse, pass}
 use Rattle.arcstring.proofs.Checks.{build-whole, build-two}
 use Rattle.arcstring.proofs.Rooms.{room-enough}
 use Rattle.arcstring.proofs.Flat.{points-flat, length-flat}
 use Rattle.arcstring.proofs.Builds.{closed-length, open-length}
-use Rattle.arcstring.proofs.Legs.{legs-whole}
-use Rattle.arcstring.proofs.Tallies.{tally-counts}
+use Rattle.arcstring_crossing.specs.declared.listing.Counts.{Counts}
+use Rattle.arcstring_crossing.specs.declared.tally.Tally.{Tally}
+use Rattle.arcstring_crossing.specs.Crossing.{Leg}
+use Rattle.arcstring_crossing.specs.Listing.{legs, pairsBetween, countsOf}
+use Rattle.arcstring_crossing.specs.Tally.{noTally, tallyOn, tallyCounts, legsFrom, legCount}
+use Rattle.arcstring_crossing.proofs.Legs.{legs-whole}
+use Rattle.arcstring_crossing.proofs.Tallies.{tally-counts}
 use Rattle.textform.specs.Count.{countsBetween, countBuilt}
 
 -- ---- an answer of `build`, by what was answered

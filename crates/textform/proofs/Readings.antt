@@ -10,12 +10,12 @@ use lib.ListN.{length, take, length-append, length-map}
 use lib.Seq.{take-all, take-append-le, length-take-le}
 use lib.Ieee.{Float, nan, inf, fin, le, binary64, ofBits}
 use borrow.Author.Tests.{ltb-true, ltb-false}
-use Rattle.arcstring.specs.declared.listing.Counts.{Counts}
 use Rattle.arcstring.specs.Answer.{Answer, refused, answered, unlessRefused, numberIf, firstOf, pick}
 use Rattle.arcstring.specs.Points.{points}
 use Rattle.arcstring.specs.Build.{builtString}
 use Rattle.arcstring.specs.Check.{inRange, allInRange, listCheck, buildCheck}
 use Rattle.arcstring.proofs.Checks.{too-many, build-enough, build-whole}
+use Rattle.arcstring_crossing.specs.declared.listing.Counts.{Counts}
 use Rattle.textform.specs.declared.read.Part.{Part}
 use Rattle.textform.specs.declared.read.Part.the-variants as P
 use Rattle.textform.specs.Text.{State, start, partAt, placeAfter, hexDigit, malformed, onward, ifDigit, append, withFloat, stepAt, stepWith, fedWith, reading, wellFormed}

@@ -3,12 +3,12 @@ use mathlib.Core.Bool.{Bool, true, false}
 use mathlib.Core.List.{List}
 use Prim.Native.Nat.{ℕ}
 use lib.Ieee.{Float}
-use Rattle.arcstring.specs.declared.listing.Counts.{Counts}
 use Rattle.arcstring.specs.Answer.{Answer, refused, answered, unlessRefused, pick}
 use Rattle.arcstring.specs.Points.{ArcString, points}
 use Rattle.arcstring.specs.Check.{buildCheck}
 use Rattle.arcstring.specs.Build.{builtString}
-use Rattle.arcstring.specs.Listing.{legs, pairsBetween, countsOf}
+use Rattle.arcstring_crossing.specs.declared.listing.Counts.{Counts}
+use Rattle.arcstring_crossing.specs.Listing.{legs, pairsBetween, countsOf}
 use Rattle.textform.specs.Text.{State, reading, wellFormed}
 use Rattle.textform.specs.Print.{printed}
 use Rattle.textform.specs.declared.count.Outcome.{Outcome}

@@ -11,8 +11,8 @@ use crate::read::Reader;
 use arcstring::build;
 use arcstring::build::Built;
 use arcstring::check;
-use arcstring::listing::Counts;
-use arcstring::tally;
+use arcstring_crossing::listing::Counts;
+use arcstring_crossing::tally;
 
 // Counts, or the number of a refusal.
 pub(crate) enum Outcome {

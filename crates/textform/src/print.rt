@@ -4,7 +4,7 @@ ghost use mathlib.Core.List.{_++_};
 ghost use Prim.Native.Nat.{_+_, _≤_};
 ghost use lib.ListN.{length, take};
 ghost use Rattle.textform.specs.Print.{decimal, countsText, refusalText};
-use arcstring::listing::Counts;
+use arcstring_crossing::listing::Counts;
 
 // Bytes written from position `at` on; where they end.
 fn put_text(out: &mut [u8], at: usize, text: &[u8]) -> usize

@@ -1,6 +1,6 @@
 -- A pair's class, its mark and its point are put into their places, and a refusal changes nothing. Assumes nothing.
 use mathlib.Core.Path.{refl, sym, ap, _∙_}
-use Rattle.arcstring.specs.Crossing.{crossedAnswer}
+use Rattle.arcstring_crossing.specs.Crossing.{crossedAnswer}
 use Rattle.arcstring_c.specs.Numbers.{classNumber, keptByte, pairPoint}
 use Rattle.arcstring_c.proofs.Places.{number-as, place-as}
 use borrow.Author.Needs.{needs}

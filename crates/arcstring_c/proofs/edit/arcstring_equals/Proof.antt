@@ -1,5 +1,5 @@
 -- The verdict on two strings, as the string layer decides it. Assumes nothing.
-use Rattle.arcstring_edit.specs.Relation.{equals}
+use Rattle.arcstring_simplify.specs.Relation.{equals}
 use Rattle.arcstring_c.proofs.Places.{decided-as}
 use borrow.Author.Needs.{needs}
 use Rattle.arcstring_c.proofs.edit.arcstring_equals.Statement.{statement}

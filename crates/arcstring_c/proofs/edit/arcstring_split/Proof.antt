@@ -1,5 +1,5 @@
 -- The number of pieces is put into its place beside their floats, counts and flags, and a refusal changes nothing. Assumes nothing.
-use Rattle.arcstring_edit.specs.Split.{splitString}
+use Rattle.arcstring_split.specs.Split.{splitString}
 use Rattle.arcstring_c.proofs.Places.{pieces-number, pieces-count}
 use borrow.Author.Needs.{needs}
 use Rattle.arcstring_c.proofs.edit.arcstring_split.Statement.{statement}

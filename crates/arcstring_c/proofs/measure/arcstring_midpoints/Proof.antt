@@ -1,7 +1,7 @@
 -- The number of results is put into its place beside their floats, and a refusal changes nothing. Assumes nothing.
 use mathlib.Core.Path.{refl, sym, ap, _∙_}
 use Rattle.arcstring.specs.Walk.{writtenAnswer}
-use Rattle.arcstring.specs.Measure.{midpoints}
+use Rattle.arcstring_relation.specs.Measure.{midpoints}
 use Rattle.arcstring_c.proofs.Places.{written-number, written-count}
 use borrow.Author.Needs.{needs}
 use Rattle.arcstring_c.proofs.measure.arcstring_midpoints.Statement.{statement}

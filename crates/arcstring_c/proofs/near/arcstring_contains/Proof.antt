@@ -1,5 +1,5 @@
 -- The verdict on two strings, as the string layer decides it. Assumes nothing.
-use Rattle.arcstring.specs.Relation.{contains}
+use Rattle.arcstring_relation.specs.Relation.{contains}
 use Rattle.arcstring_c.proofs.Places.{decided-as}
 use borrow.Author.Needs.{needs}
 use Rattle.arcstring_c.proofs.near.arcstring_contains.Statement.{statement}

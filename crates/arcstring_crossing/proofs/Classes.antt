@@ -1,0 +1,85 @@
+-- The class of a pair of legs, and what a grazing pair keeps, at each outcome of the tests. Assumes nothing.
+use mathlib.Core.Path.{_≡_, sym, ap, ap₂, _∙_}
+use mathlib.Core.Bool.{true, false}
+use mathlib.Core.List.{List}
+use lib.Ieee.{Float}
+use Rattle.sphericalpoint.specs.declared.SphericalPoint.{SphericalPoint}
+use Rattle.sphericalpoint.specs.Vector.{xyzNeg, xyzCross}
+use Rattle.arcstring_crossing.specs.declared.crossing.Pair.{Pair}
+use Rattle.arcstring_crossing.specs.declared.crossing.Pair.the-variants.{Clean, End, Grazing, Apart}
+use Rattle.arcstring_crossing.specs.declared.crossing.Outcome.{Outcome}
+use Rattle.arcstring_crossing.specs.declared.crossing.Outcome.the-variants.{Kept, Dropped}
+use Rattle.arcstring_crossing.specs.declared.crossing.Plane.{Plane}
+use Rattle.arcstring_crossing.specs.Plane.{planeLeg, planeOf, planeSides}
+use Rattle.arcstring_crossing.specs.Crossing.{Leg, meeting, sideFrom, sideTo, sideValues, pairOf, grazes, isAbove, isBelow, signNegative, signPositive, someSide, everySide, atEnd, keptPoint, grazingOutcome, endOrClean, classAt}
+
+module _ (p : SphericalPoint) (a b : Leg) where
+  pub end-dropped : atEnd p a b ≡ true → Dropped ≡ keptPoint p a b
+  unfolding keptPoint
+  end-dropped h = rw h
+
+  pub other-kept : atEnd p a b ≡ false → Kept p ≡ keptPoint p a b
+  unfolding keptPoint
+  other-kept h = rw h
+
+  pub end-class : atEnd p a b ≡ true → End p ≡ endOrClean p a b
+  unfolding endOrClean
+  end-class h = rw h
+
+  pub clean-class : atEnd p a b ≡ false → Clean p ≡ endOrClean p a b
+  unfolding endOrClean
+  clean-class h = rw h
+
+module _ (t : SphericalPoint) (a b : Leg) (s : List Float) where
+  pub positive-outcome : (o : Outcome) → everySide signPositive s ≡ true → o ≡ keptPoint t a b → o ≡ grazingOutcome t a b s
+  unfolding grazingOutcome
+  positive-outcome o h k = rw h k
+
+  pub negative-outcome : (o : Outcome) (u : SphericalPoint) → everySide signPositive s ≡ false → everySide signNegative s ≡ true → u ≡ xyzNeg t → o ≡ keptPoint u a b
+      → o ≡ grazingOutcome t a b s
+  unfolding grazingOutcome
+  negative-outcome o u h i e k = rw (h, i, ← e) k
+
+  pub mixed-outcome : everySide signPositive s ≡ false → everySide signNegative s ≡ false → Dropped ≡ grazingOutcome t a b s
+  unfolding grazingOutcome
+  mixed-outcome h i = rw (h, i)
+
+  pub grazing-class : (o : Outcome) → someSide grazes s ≡ true → o ≡ grazingOutcome t a b s → Grazing o ≡ classAt t a b s
+  unfolding classAt
+  grazing-class o h k = rw (h, k)
+
+  pub above-class : (r : Pair) → someSide grazes s ≡ false → everySide isAbove s ≡ true → r ≡ endOrClean t a b → r ≡ classAt t a b s
+  unfolding classAt
+  above-class r h i k = rw (h, i) k
+
+  pub below-class : (r : Pair) (u : SphericalPoint) → someSide grazes s ≡ false → everySide isAbove s ≡ false → everySide isBelow s ≡ true → u ≡ xyzNeg t → r ≡ endOrClean u a b
+      → r ≡ classAt t a b s
+  unfolding classAt
+  below-class r u h i j e k = rw (h, i, j, ← e) k
+
+  pub apart-class : someSide grazes s ≡ false → everySide isAbove s ≡ false → everySide isBelow s ≡ false → Apart ≡ classAt t a b s
+  unfolding classAt
+  apart-class h i j = rw (h, i, j)
+
+-- ---- by what was worked out for each leg
+
+pub plane-leg : (a : Plane) (l : Leg) → a ≡ planeOf l → planeLeg a ≡ l
+unfolding planeOf
+plane-leg a l h = ap planeLeg h
+
+pub plane-again : (a : Plane) (l : Leg) → a ≡ planeOf l → a ≡ planeOf (planeLeg a)
+plane-again a l h = h ∙ ap planeOf (sym (plane-leg a l h))
+
+by-planes : (l m : Leg) (t : SphericalPoint) (s : List Float) → t ≡ xyzCross (planeOf l .normal) (planeOf m .normal) → s ≡ planeSides (planeOf l) (planeOf m) t
+    → classAt t l m s ≡ pairOf l m
+unfolding pairOf meeting sideValues sideFrom sideTo planeOf planeSides
+by-planes l m t s h k = ap (classAt t l m) k ∙ ap (λ (u : SphericalPoint). classAt u l m (planeSides (planeOf l) (planeOf m) u)) h
+
+pub planes-class : (a b : Plane) (t : SphericalPoint) (s : List Float) → a ≡ planeOf (planeLeg a) → b ≡ planeOf (planeLeg b) → t ≡ xyzCross (a .normal) (b .normal) → s ≡ planeSides a b t
+    → classAt t (planeLeg a) (planeLeg b) s ≡ pairOf (planeLeg a) (planeLeg b)
+planes-class a b t s p q h k =
+    by-planes (planeLeg a) (planeLeg b) t s (h ∙ ap₂ (λ (x y : Plane). xyzCross (x .normal) (y .normal)) p q) (k ∙ ap₂ (λ (x y : Plane). planeSides x y t) p q)
+
+-- a pair that the code tested, of a leg's plane and another leg
+pub tested-pair : (a b : Plane) (x : Leg) (p : Pair) → b ≡ planeOf x → p ≡ pairOf (planeLeg a) (planeLeg b) → p ≡ pairOf (planeLeg a) x
+tested-pair a b x p h k = k ∙ ap (pairOf (planeLeg a)) (plane-leg b x h)

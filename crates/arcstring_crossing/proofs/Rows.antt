@@ -1,0 +1,81 @@
+-- The pairs that a walk over legs visits, one after the other: what is still to be visited from a position on, and how many pairs there are. Assumes nothing.
+use mathlib.Core.Path.{_≡_, sym, ap, _∙_}
+use mathlib.Core.List.{List, [], _∷_, _++_, map}
+use Prim.Native.Nat.{ℕ, suc, _+_, _-_, _*_, _<_, _≤_}
+use native.Mathlib.Nat.{zero-mul, suc-mul, mul-suc, le-trans, mul-le-mul-left, mul-le-mul-right}
+use native.Mathlib.Omega.{arith}
+use lib.ListN.{length, drop, length-append, length-map, length-drop}
+use lib.Ieee.{Float}
+use Rattle.arcstring_crossing.specs.declared.crossing.Pair.{Pair}
+use Rattle.arcstring_crossing.specs.Crossing.{Leg, pairOf}
+use Rattle.arcstring_crossing.specs.Listing.{pairsBetween, pairsWithin}
+use Rattle.arcstring_crossing.specs.Tally.{legAt, legsFrom, rowPairs}
+use Rattle.arcstring_crossing.proofs.Legs.{legs-step, legs-none, legs-tail, legs-few}
+
+-- ---- one more: with the leg at a position, as the code has it
+
+module _ (v : List Float) (n : ℕ) (whole : length v ≡ 3 * n) where
+  pub row-next : (a x : Leg) (p : Pair) (k to : ℕ) → k < to → to ≤ n → x ≡ legAt v n k → p ≡ pairOf a x → rowPairs a v k to ≡ (p ∷ []) ++ rowPairs a v (k + 1) to
+  unfolding rowPairs
+  row-next a x p k to h l hx hp =
+      ap (map (pairOf a)) (legs-step v n whole k to h l) ∙ ap (λ (q : Pair). q ∷ map (pairOf a) (legsFrom v (k + 1) to)) (sym (hp ∙ ap (pairOf a) hx))
+
+  pub between-next : (x : Leg) (b : List Float) (lb i to : ℕ) → i < to → to ≤ n → x ≡ legAt v n i
+      → pairsBetween (legsFrom v i to) (legsFrom b 0 lb) ≡ rowPairs x b 0 lb ++ pairsBetween (legsFrom v (i + 1) to) (legsFrom b 0 lb)
+  unfolding pairsBetween rowPairs
+  between-next x b lb i to h l hx =
+      let bs = legsFrom b 0 lb in
+      ap (λ (ls : List Leg). pairsBetween ls bs) (legs-step v n whole i to h l) ∙ ap (λ (y : Leg). map (pairOf y) bs ++ pairsBetween (legsFrom v (i + 1) to) bs) (sym hx)
+
+  pub within-next : (x : Leg) (i to : ℕ) → i < to → to ≤ n → x ≡ legAt v n i
+      → pairsWithin (legsFrom v i to) ≡ rowPairs x v (i + 2) to ++ pairsWithin (legsFrom v (i + 1) to)
+  unfolding pairsWithin rowPairs
+  within-next x i to h l hx =
+      let e : i + 1 + 1 ≡ i + 2 = omega arith in
+      ap pairsWithin (legs-step v n whole i to h l) ∙ rw (← hx, legs-tail v (i + 1) to, e)
+
+-- ---- no more
+
+pub row-none : (a : Leg) (v : List Float) (from to : ℕ) → to ≤ from → rowPairs a v from to ≡ []
+unfolding rowPairs
+row-none a v from to h = ap (map (pairOf a)) (legs-none v from to h)
+
+pub between-none : (v : List Float) (bs : List Leg) (i to : ℕ) → to ≤ i → pairsBetween (legsFrom v i to) bs ≡ []
+unfolding pairsBetween
+between-none v bs i to h = ap (λ (ls : List Leg). pairsBetween ls bs) (legs-none v i to h)
+
+pub within-none : (v : List Float) (i to : ℕ) → to ≤ i → pairsWithin (legsFrom v i to) ≡ []
+unfolding pairsWithin
+within-none v i to h = ap pairsWithin (legs-none v i to h)
+
+-- ---- how many
+
+pub row-few : (a : Leg) (v : List Float) (from to : ℕ) → length (rowPairs a v from to) ≤ to
+unfolding rowPairs
+row-few a v from to = rw (length-map (legsFrom v from to) (pairOf a)) (omega (arith, legs-few v from to))
+
+length-between : (ls bs : List Leg) → length (pairsBetween ls bs) ≡ length ls * length bs
+unfolding pairsBetween
+length-between [] bs = sym (zero-mul (length bs))
+length-between (a ∷ ls) bs =
+    omega (arith, length-append (map (pairOf a) bs) (pairsBetween ls bs), length-map bs (pairOf a), length-between ls bs, suc-mul (length ls) (length bs))
+
+length-within : (ls : List Leg) → length (pairsWithin ls) ≤ length ls * length ls
+unfolding pairsWithin
+length-within [] = omega arith
+length-within (a ∷ ls) =
+    omega
+    (arith, length-append (map (pairOf a) (drop 1 ls)) (pairsWithin ls), length-map (drop 1 ls) (pairOf a), length-drop 1 ls, length-within ls, suc-mul (length ls) (suc (length ls)), mul-suc (length ls) (length ls))
+
+product-small : (i j : ℕ) → i ≤ 1024 → j ≤ 1024 → i * j ≤ 1048576
+product-small i j h l = le-trans (mul-le-mul-right j h) (mul-le-mul-left 1024 l)
+
+pub between-few : (a b : List Float) (la lb : ℕ) → la ≤ 1024 → lb ≤ 1024 → length (pairsBetween (legsFrom a 0 la) (legsFrom b 0 lb)) ≤ 1048576
+between-few a b la lb h l =
+    rw (length-between (legsFrom a 0 la) (legsFrom b 0 lb))
+    (product-small (length (legsFrom a 0 la)) (length (legsFrom b 0 lb)) (omega (arith, legs-few a 0 la)) (omega (arith, legs-few b 0 lb)))
+
+pub within-few : (v : List Float) (to : ℕ) → to ≤ 1024 → length (pairsWithin (legsFrom v 0 to)) ≤ 1048576
+within-few v to h =
+    let s : length (legsFrom v 0 to) ≤ 1024 = omega (arith, legs-few v 0 to) in
+    le-trans (length-within (legsFrom v 0 to)) (product-small (length (legsFrom v 0 to)) (length (legsFrom v 0 to)) s s)

@@ -1,0 +1,112 @@
+-- What the tests with zero say of a float, the sign of a zero included, and what the same test says of all four side values. Assumes nothing.
+use mathlib.Core.Path.{_≡_, refl, sym, _∙_}
+use mathlib.Core.Bool.{Bool, true, false, _&&_, _||_}
+use mathlib.Core.List.{List, [], _∷_}
+use Prim.Native.Nat.{ℕ, zero, suc, _+_, _*_, _<_}
+use native.Mathlib.Omega.{arith}
+use native.Mathlib.Nat.{zero-mul, mul-pos}
+use lib.IntN.{ℤ}
+use lib.ListN.{length, getD}
+use lib.Ieee.{Float, nan, inf, fin, binary64, ofBits, lt, eq, div, up, down}
+use lib.Ieee.Fits.{up-pos}
+use borrow.Author.Tests.{eqb-true, lt-ltb, le-ltb}
+use Rattle.arcstring_crossing.specs.Crossing.{signNegative, signPositive, someSide, everySide}
+
+abbrev zero64 : Float
+zero64 = ofBits binary64 0
+
+abbrev one64 : Float
+one64 = ofBits binary64 0x3ff0_0000_0000_0000
+
+no : {A : Type 0} → _≡_ {A = Bool} false true → A
+no e = absurd (let z : _≡_ {A = ℕ} 0 1 = cc in omega arith)
+
+both : (a b : Bool) → a && b ≡ true → a ≡ true
+both true b h = refl
+both false b h = h
+
+-- a positive number times a power of two
+scaled-pos : (m : ℕ) (e : ℤ) → 0 < suc m * up e
+scaled-pos m e = mul-pos (omega arith) (up-pos e)
+
+zero-level : (s : Bool) (e : ℤ) → eq (fin s zero e) zero64 ≡ true
+unfolding eq ofBits
+zero-level true e = simp zero-mul
+zero-level false e = simp zero-mul
+
+-- only a zero equals zero
+zero-only : (s : Bool) (m : ℕ) (e : ℤ) → eq (fin s (suc m) e) zero64 ≡ true → ⊥
+unfolding eq ofBits
+zero-only s m e h = omega (arith, eqb-true (suc m * up e * 1) (0 * down e) (both _ _ h), zero-mul (down e), scaled-pos m e)
+
+-- one over a zero is the infinity of its sign
+pub negative-of-zero : (x : Float) → eq x zero64 ≡ true → lt (div binary64 one64 x) zero64 ≡ signNegative x
+unfolding lt eq div ofBits signNegative
+negative-of-zero nan h = no h
+negative-of-zero (inf true) h = no h
+negative-of-zero (inf false) h = no h
+negative-of-zero (fin true zero e) h = refl
+negative-of-zero (fin false zero e) h = refl
+negative-of-zero (fin s (suc m) e) h = absurd (zero-only s m e h)
+
+pub positive-of-zero : (x : Float) → eq x zero64 ≡ true → lt zero64 (div binary64 one64 x) ≡ signPositive x
+unfolding lt eq div ofBits signPositive
+positive-of-zero nan h = no h
+positive-of-zero (inf true) h = no h
+positive-of-zero (inf false) h = no h
+positive-of-zero (fin true zero e) h = refl
+positive-of-zero (fin false zero e) h = refl
+positive-of-zero (fin s (suc m) e) h = absurd (zero-only s m e h)
+
+-- of what is no zero, the comparison says the sign
+pub negative-of-other : (x : Float) → eq x zero64 ≡ false → lt x zero64 ≡ signNegative x
+unfolding lt eq ofBits signNegative
+negative-of-other nan h = refl
+negative-of-other (inf s) h = refl
+negative-of-other (fin true zero e) h = no (sym h ∙ zero-level true e)
+negative-of-other (fin true (suc m) e) h = lt-ltb 0 (suc m * up e * 1 + 0 * down e) (omega (arith, zero-mul (down e), scaled-pos m e))
+negative-of-other (fin false m e) h = le-ltb (m * up e * 1) (0 * down e) (omega (arith, zero-mul (down e)))
+
+pub positive-of-other : (x : Float) → eq x zero64 ≡ false → lt zero64 x ≡ signPositive x
+unfolding lt eq ofBits signPositive
+positive-of-other nan h = refl
+positive-of-other (inf s) h = refl
+positive-of-other (fin true m e) h = refl
+positive-of-other (fin false zero e) h = no (sym h ∙ zero-level false e)
+positive-of-other (fin false (suc m) e) h = lt-ltb (0 * down e) (suc m * up e * 1) (omega (arith, zero-mul (down e), scaled-pos m e))
+
+-- ---- four side values
+
+and-four : (a b c d : Bool) → (((a && b) && c) && d) ≡ (a && (b && (c && (d && true))))
+and-four false b c d = refl
+and-four true false c d = refl
+and-four true true false d = refl
+and-four true true true false = refl
+and-four true true true true = refl
+
+or-four : (a b c d : Bool) → (((a || b) || c) || d) ≡ (a || (b || (c || (d || false))))
+or-four true b c d = refl
+or-four false true c d = refl
+or-four false false true d = refl
+or-four false false false true = refl
+or-four false false false false = refl
+
+pub every-of-four : (t : Float → Bool) (s : List Float) → length s ≡ 4 →
+    (((t (getD s 0 nan) && t (getD s 1 nan)) && t (getD s 2 nan)) && t (getD s 3 nan)) ≡ everySide t s
+unfolding everySide
+every-of-four t [] h = absurd (omega arith)
+every-of-four t (a ∷ []) h = absurd (omega arith)
+every-of-four t (a ∷ b ∷ []) h = absurd (omega arith)
+every-of-four t (a ∷ b ∷ c ∷ []) h = absurd (omega arith)
+every-of-four t (a ∷ b ∷ c ∷ d ∷ []) h = and-four (t a) (t b) (t c) (t d)
+every-of-four t (a ∷ b ∷ c ∷ d ∷ e ∷ l) h = absurd (omega arith)
+
+pub some-of-four : (t : Float → Bool) (s : List Float) → length s ≡ 4 →
+    (((t (getD s 0 nan) || t (getD s 1 nan)) || t (getD s 2 nan)) || t (getD s 3 nan)) ≡ someSide t s
+unfolding someSide
+some-of-four t [] h = absurd (omega arith)
+some-of-four t (a ∷ []) h = absurd (omega arith)
+some-of-four t (a ∷ b ∷ []) h = absurd (omega arith)
+some-of-four t (a ∷ b ∷ c ∷ []) h = absurd (omega arith)
+some-of-four t (a ∷ b ∷ c ∷ d ∷ []) h = or-four (t a) (t b) (t c) (t d)
+some-of-four t (a ∷ b ∷ c ∷ d ∷ e ∷ l) h = absurd (omega arith)

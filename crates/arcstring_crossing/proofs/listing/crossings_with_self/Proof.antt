@@ -1,0 +1,92 @@
+-- A refusal of the string, then for want of room, else the listing of its pairs with itself, its points normalised. Assumes nothing.
+use mathlib.Core.Path.{_≡_, sym, ap, _∙_}
+use borrow.Author.Needs.{needs}
+use Rattle.arcstring.specs.Answer.{Answer, unlessRefused}
+use Rattle.arcstring.specs.Splice.{splice}
+use Rattle.arcstring.specs.Check.{checkNumber, storedCheck}
+use Rattle.arcstring.proofs.Answers.{answer-refused, answer-accepted}
+use Rattle.arcstring_crossing.specs.Listing.{Listing, selfCrossings}
+use Rattle.arcstring_crossing.proofs.Listings.{refused-leaves, lists-normalized, normalized-points, normalized-bytes, no-room-leaves, listing-leaves, room-for-kept}
+use Rattle.arcstring_crossing.proofs.Tallies.{tally-kept}
+use Rattle.arcstring_crossing.proofs.listing.crossings_with_self.Statement.{statement}
+use Rattle.arcstring_crossing.proofs.listing.crossings_with_self.Tie as tie
+
+accepted : (c : tie.After-enum-told) → storedCheck (c .before .before .before .before .before .before .args .v .now) ≡ 0
+accepted c = sym (c .before .before .check-stored .ensures) ∙ ap checkNumber (c .enum-told .given .1)
+
+-- the string is accepted, so what follows is the answer
+follows : (c : tie.After-enum-told) (x : Answer Listing) → x ≡ unlessRefused (storedCheck (c .before .before .before .before .before .before .args .v .now)) x
+follows c x = answer-accepted _ (storedCheck _) x (c .enum-told .given .1) (c .before .before .check-stored .ensures)
+
+check-stored-requires : tie.Need-check-stored-requires
+check-stored-requires c κs = search needs
+
+enum-known-checked : tie.Need-enum-known-checked
+enum-known-checked c = search needs
+
+returns : tie.Need-returns
+unfolding selfCrossings
+returns c = refused-leaves _ _ _ _ (answer-refused _ _ (storedCheck _) _ (c .before .checked .given .1) (c .before .before .before .check-stored .ensures))
+
+enum-told : tie.Need-enum-told
+enum-told c = search needs
+
+tally-self-requires : tie.Need-tally-self-requires
+tally-self-requires c κs = accepted c
+
+check-buffers-requires : tie.Need-check-buffers-requires
+check-buffers-requires c κs = search needs
+
+enum-known-room : tie.Need-enum-known-room
+enum-known-room c = search needs
+
+returns-2 : tie.Need-returns-2
+unfolding selfCrossings
+returns-2 c =
+    let d = c .before .before .before in
+    no-room-leaves _ _ (lists-normalized _) _ (d .before .tally-self .ensures .0) _ _ _ (d .check-buffers .ensures) _ _ (follows (d .before .before) _) (c .before .room .given .1)
+
+enum-told-2 : tie.Need-enum-told-2
+enum-told-2 c = search needs
+
+list-self-requires : tie.Need-list-self-requires
+list-self-requires c κs =
+    let d = c .before .before .before .before in
+    let s = d .before .before .before .before .before .before .before .before in
+    let t = d .before .tally-self .ensures .0 in
+    ((accepted (d .before .before), tally-kept _ _ t), room-for-kept _ _ (lists-normalized _) _ t _ (s .args .points .now) (s .args .marks .now) (d .check-buffers .ensures) (c .before .before .enum-told2 .given .1))
+
+counts-of-requires : tie.Need-counts-of-requires
+counts-of-requires c κs = search needs
+
+same-length : tie.Need-same-length
+same-length c = search needs
+
+same-length-2 : tie.Need-same-length-2
+same-length-2 c = search needs
+
+returns-3 : tie.Need-returns-3
+unfolding selfCrossings
+returns-3 c =
+    let d = c .before .before .before .before .before .before .before .before .before .before in
+    let w = c .before .before .before .before .before .list-self .ensures in
+    listing-leaves _ _ (lists-normalized _) _ (d .before .tally-self .ensures .0) _ _ _ (d .check-buffers .ensures) _ _ _ _ (follows (d .before .before) _) (c .before .before .before .before .before .before .before .before .enum-told2 .given .1) (c .counts-of .ensures) (w .0 ∙ ap (splice _ 0) (normalized-points _)) (w .1 ∙ ap (splice _ 0) (normalized-bytes _))
+
+pub crossings-with-self-spec : {M : Type 1} → statement M
+crossings-with-self-spec =
+    tie.close
+    (tie.spec
+    check-stored-requires
+    enum-known-checked
+    returns
+    enum-told
+    tally-self-requires
+    check-buffers-requires
+    enum-known-room
+    returns-2
+    enum-told-2
+    list-self-requires
+    counts-of-requires
+    same-length
+    same-length-2
+    returns-3)

@@ -1,0 +1,110 @@
+-- Demand 3: the four counts and the clean points are the same after any list of changes. What is claimed, over the very definitions that the calls' contracts cite. Definitions only.
+-- The proofs are `counts-and-clean-points-stay` and `self-counts-and-clean-points-stay` of `proofs/Demand3.antt`.
+use mathlib.Core.Path.{_≡_}
+use mathlib.Core.Bool.{Bool}
+use mathlib.Core.List.{List, [], _∷_, map, List·Permᴰ}
+use Prim.Native.Nat.{ℕ}
+use lib.Ieee.{Float}
+use Rattle.ieee754.specs.Value.{Value, value}
+use Rattle.sphericalpoint.specs.declared.SphericalPoint.{SphericalPoint}
+use Rattle.arcstring.specs.Answer.{Answer, refused, answered}
+use Rattle.arcstring.specs.Points.{flat}
+use Rattle.arcstring.specs.Check.{storedCheck}
+use Rattle.arcstring.specs.Walk.{walkBack, restart}
+use Rattle.arcstring_crossing.specs.declared.listing.Counts.{Counts}
+use Rattle.arcstring_crossing.specs.Listing.{Listing, counted, crossings, selfCrossings, cleanPoints}
+
+-- ---- strings as they are handed in
+
+pub record Held : Type 0 where
+  pub vertices : List Float
+  pub near : List Float
+  pub closed : Bool
+
+pub record TwoStrings : Type 0 where
+  pub first : Held
+  pub second : Held
+
+pub record Accepted (s : Held) : Type 0 where
+  pub vertices-accepted : storedCheck (s .vertices) ≡ 0
+  pub near-accepted : storedCheck (s .near) ≡ 0
+
+-- ---- changes
+
+-- The strings trade places; or one of them is walked backwards, or restarted at a position, into an output list of so many floats.
+pub data Which : Type 0 where
+  theFirst theSecond : Which
+
+pub data Change : Type 0 where
+  trade : Change
+  backwards : Which → ℕ → Change
+  restartAt : Which → ℕ → ℕ → Change
+
+-- the vertices that a walk or a restart wrote take the place of the string's; flag and near list stay; a refused one leaves the string as it was
+abbrev pub replaced : Held → Answer (List SphericalPoint) → Held
+replaced s (refused n) = s
+replaced s (answered ps) = record { vertices = flat ps; near = s .near; closed = s .closed }
+
+abbrev pub walkedBack : ℕ → Held → Held
+walkedBack room s = replaced s (walkBack (s .vertices) room)
+
+abbrev pub restartedAt : ℕ → ℕ → Held → Held
+restartedAt k room s = replaced s (restart (s .vertices) (s .closed) k room)
+
+abbrev pub changeOne : Which → (Held → Held) → TwoStrings → TwoStrings
+changeOne theFirst f t = record { first = f (t .first); second = t .second }
+changeOne theSecond f t = record { first = t .first; second = f (t .second) }
+
+abbrev pub change : Change → TwoStrings → TwoStrings
+change trade t = record { first = t .second; second = t .first }
+change (backwards w room) t = changeOne w (walkedBack room) t
+change (restartAt w k room) t = changeOne w (restartedAt k room) t
+
+-- after all changes of a list, in sequence
+unfoldable pub changes : List Change → TwoStrings → TwoStrings
+changes [] t = t
+changes (c ∷ cs) t = changes cs (change c t)
+
+-- ---- what stays the same
+
+-- a point by value: +0 and -0 agree
+pub record PointValue : Type 0 where
+  pub x : Value
+  pub y : Value
+  pub z : Value
+
+abbrev pub pointValue : SphericalPoint → PointValue
+pointValue p = record { x = value (p .x); y = value (p .y); z = value (p .z) }
+
+-- two listings have the same clean points in value, each as often
+abbrev pub SameCleanPoints : Listing → Listing → Type 0
+SameCleanPoints l m = List·Permᴰ (map pointValue (cleanPoints (l .marks))) (map pointValue (cleanPoints (m .marks)))
+
+abbrev pub countsOfTwo : TwoStrings → Answer Counts
+countsOfTwo t = counted (t .first .vertices) (t .first .closed) (t .second .vertices) (t .second .closed)
+
+-- the listing of two strings into buffers of so many floats and bytes
+abbrev pub listingOfTwo : TwoStrings → ℕ → ℕ → Answer Listing
+listingOfTwo t = crossings (t .first .vertices) (t .first .closed) (t .second .vertices) (t .second .closed)
+
+-- the counting call gives the same counts; and where both listings have room, the clean points are the same
+pub record SameCrossings (t u : TwoStrings) : Type 0 where
+  pub same-counts : countsOfTwo t ≡ countsOfTwo u
+  pub same-clean : (p m q n : ℕ) (l k : Listing) → listingOfTwo t p m ≡ answered l → listingOfTwo u q n ≡ answered k → SameCleanPoints l k
+
+-- Demand 3: for all accepted strings and every list of changes
+abbrev pub Demand3 : Type 0
+Demand3 = (t : TwoStrings) → Accepted (t .first) → Accepted (t .second) → (cs : List Change) → SameCrossings t (changes cs t)
+
+-- ---- a string against itself: backward walks alone
+
+unfoldable pub walksBack : List ℕ → Held → Held
+walksBack [] s = s
+walksBack (room ∷ rooms) s = walksBack rooms (walkedBack room s)
+
+pub record SameSelfCrossings (s u : Held) : Type 0 where
+  pub same-self : (p m q n : ℕ) (l k : Listing) → selfCrossings (s .vertices) p m ≡ answered l → selfCrossings (u .vertices) q n ≡ answered k
+      → (l .counts ≡ k .counts) × SameCleanPoints l k
+
+abbrev pub Demand3Self : Type 0
+Demand3Self = (s : Held) → Accepted s → (rooms : List ℕ) → SameSelfCrossings s (walksBack rooms s)

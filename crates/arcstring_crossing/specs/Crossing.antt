@@ -1,0 +1,125 @@
+-- The class of a pair of legs, as document 01 defines it over the Rust's `arcs_crossing`. Definitions only.
+use mathlib.Core.Bool.{Bool, true, false, not, _&&_, _||_}
+use mathlib.Core.List.{List, [], _∷_}
+use Prim.Native.Nat.{ℕ}
+use lib.IntN.{pos}
+use lib.ListN.{getD}
+use lib.Ieee.{Float, nan, inf, fin, lt, eq}
+use Rattle.sphericalpoint.specs.declared.SphericalPoint.{SphericalPoint}
+use Rattle.sphericalpoint.specs.Vector.{xyzCross, xyzDot, xyzNeg, xyzEq}
+use Rattle.arcstring.specs.Answer.{Answer, refused, answered, unlessRefused, firstOf, pick, refusalNumber}
+use Rattle.arcstring.specs.Points.{point}
+use Rattle.arcstring.specs.Check.{pointCheck}
+use Rattle.arcstring_crossing.specs.declared.crossing.Pair.{Pair}
+use Rattle.arcstring_crossing.specs.declared.crossing.Pair.the-variants.{Clean, End, Grazing, Apart}
+use Rattle.arcstring_crossing.specs.declared.crossing.Outcome.{Outcome}
+use Rattle.arcstring_crossing.specs.declared.crossing.Outcome.the-variants.{Kept, Dropped}
+use Rattle.arcstring_crossing.specs.declared.crossing.Crossed.{Crossed}
+use Rattle.arcstring_crossing.specs.declared.crossing.Crossed.the-variants as C
+
+pub record Leg : Type 0 where
+  pub from : SphericalPoint
+  pub to : SphericalPoint
+
+abbrev pub leg : SphericalPoint → SphericalPoint → Leg
+leg u v = record { from = u; to = v }
+
+-- a leg handed over as an array of two arrays of three
+abbrev pub legOf : List (List Float) → Leg
+legOf l =
+    let u = getD l 0 [] in
+    let v = getD l 1 [] in
+    leg (point (getD u 0 nan) (getD u 1 nan) (getD u 2 nan)) (point (getD v 0 nan) (getD v 1 nan) (getD v 2 nan))
+
+-- ---- the side values
+
+-- a leg's own cross product: p and q of the Rust
+unfoldable pub normal : Leg → SphericalPoint
+normal l = xyzCross (l .from) (l .to)
+
+-- t of the Rust: the cross product of the two legs' own cross products
+unfoldable pub meeting : Leg → Leg → SphericalPoint
+meeting a b = xyzCross (normal a) (normal b)
+
+-- the side values of a leg's start and of its end, each with the sign that it has when the Rust compares it
+unfoldable pub sideFrom : Leg → SphericalPoint → Float
+sideFrom l t = xyzDot (xyzNeg (xyzCross (l .from) (normal l))) t
+
+unfoldable pub sideTo : Leg → SphericalPoint → Float
+sideTo l t = xyzDot (xyzCross (l .to) (normal l)) t
+
+unfoldable pub sideValues : Leg → Leg → SphericalPoint → List Float
+sideValues a b t = sideFrom a t ∷ sideTo a t ∷ sideFrom b t ∷ sideTo b t ∷ []
+
+-- ---- tests of the four side values
+
+abbrev pub zeroFloat : Float
+zeroFloat = fin false 0 (pos 0)
+
+-- a side value grazes: it is zero
+unfoldable pub grazes : Float → Bool
+grazes x = eq x zeroFloat
+
+unfoldable pub isAbove : Float → Bool
+isAbove x = lt zeroFloat x
+
+unfoldable pub isBelow : Float → Bool
+isBelow x = lt x zeroFloat
+
+-- Rust's `is_sign_negative`, of a zero too, and `is_sign_positive`. A NaN has no sign here.
+unfoldable pub signNegative : Float → Bool
+signNegative nan = false
+signNegative (inf s) = s
+signNegative (fin s m e) = s
+
+unfoldable pub signPositive : Float → Bool
+signPositive nan = false
+signPositive (inf s) = not s
+signPositive (fin s m e) = not s
+
+unfoldable pub someSide : (Float → Bool) → List Float → Bool
+someSide t [] = false
+someSide t (s ∷ l) = t s || someSide t l
+
+unfoldable pub everySide : (Float → Bool) → List Float → Bool
+everySide t [] = true
+everySide t (s ∷ l) = t s && everySide t l
+
+-- ---- the class
+
+-- the point is `xyz_eq` to one of the four leg ends
+unfoldable pub atEnd : SphericalPoint → Leg → Leg → Bool
+atEnd p a b = xyzEq p (a .from) || xyzEq p (a .to) || xyzEq p (b .from) || xyzEq p (b .to)
+
+-- what the Rust does with a grazing pair's point: an end's is dropped
+unfoldable pub keptPoint : SphericalPoint → Leg → Leg → Outcome
+keptPoint p a b = pick (atEnd p a b) Dropped (Kept p)
+
+-- by the signs of its zeros, as the Rust has it
+unfoldable pub grazingOutcome : SphericalPoint → Leg → Leg → List Float → Outcome
+grazingOutcome t a b s = pick (everySide signPositive s) (keptPoint t a b) (pick (everySide signNegative s) (keptPoint (xyzNeg t) a b) Dropped)
+
+-- the signs agree
+unfoldable pub endOrClean : SphericalPoint → Leg → Leg → Pair
+endOrClean p a b = pick (atEnd p a b) (End p) (Clean p)
+
+-- document 01's classes. t is not normalised before the end test.
+unfoldable pub classAt : SphericalPoint → Leg → Leg → List Float → Pair
+classAt t a b s =
+    pick (someSide grazes s) (Grazing (grazingOutcome t a b s))
+    (pick (everySide isAbove s) (endOrClean t a b) (pick (everySide isBelow s) (endOrClean (xyzNeg t) a b) Apart))
+
+unfoldable pub pairOf : Leg → Leg → Pair
+pairOf a b = classAt (meeting a b) a b (sideValues a b (meeting a b))
+
+-- ---- the call
+
+unfoldable pub legCheck : Leg → ℕ
+legCheck l = firstOf (pointCheck (l .from)) (pointCheck (l .to))
+
+unfoldable pub arcsCrossing : Leg → Leg → Answer Pair
+arcsCrossing a b = unlessRefused (legCheck a) (unlessRefused (legCheck b) (answered (pairOf a b)))
+
+abbrev pub crossedAnswer : Crossed → Answer Pair
+crossedAnswer (C.Pair p) = answered p
+crossedAnswer (C.Refused e) = refused (refusalNumber e)

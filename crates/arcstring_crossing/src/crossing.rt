@@ -1,0 +1,280 @@
+// The class of a pair of legs: document 01's, over the source's `arcs_crossing`.
+ghost use mathlib.Core.Path.{_≡_};
+ghost use Rattle.arcstring.specs.Check.{checkNumber};
+ghost use Rattle.arcstring_crossing.specs.Plane.{planeLeg, planeOf, planeSides};
+ghost use Rattle.arcstring_crossing.specs.Crossing.{leg, legOf, grazes, isAbove, isBelow, signNegative, signPositive, someSide, everySide, atEnd, keptPoint, grazingOutcome, endOrClean, classAt, pairOf, legCheck, arcsCrossing, crossedAnswer};
+use arcstring::check;
+use arcstring::check::Checked;
+use arcstring::check::Refusal;
+use sphericalpoint::SphericalPoint;
+
+// What the source does with a grazing pair's point, by the signs of its zeros.
+pub enum Outcome {
+    Kept(SphericalPoint),
+    Dropped,
+}
+
+// The class of a pair of legs, with its point where it has one.
+pub enum Pair {
+    Clean(SphericalPoint),
+    End(SphericalPoint),
+    Grazing(Outcome),
+    Apart,
+}
+
+// A pair's class, or why there is none.
+pub enum Crossed {
+    Pair(Pair),
+    Refused(Refusal),
+}
+
+pub fn start_of(arc: [[f64; 3]; 2]) -> SphericalPoint
+    ensures { λ r. ⌜ r ≡ legOf arc .from ⌝ }
+{
+    SphericalPoint {
+        x: arc[0][0],
+        y: arc[0][1],
+        z: arc[0][2],
+    }
+}
+
+pub fn end_of(arc: [[f64; 3]; 2]) -> SphericalPoint
+    ensures { λ r. ⌜ r ≡ legOf arc .to ⌝ }
+{
+    SphericalPoint {
+        x: arc[1][0],
+        y: arc[1][1],
+        z: arc[1][2],
+    }
+}
+
+// What the pair test takes of a leg: its ends, its own cross product, and the vectors whose dot products with the
+// meeting of two legs are its side values. It is worked out once for a leg that is tested against many.
+pub(crate) struct Plane {
+    pub from: SphericalPoint,
+    pub to: SphericalPoint,
+    pub normal: SphericalPoint,
+    pub before: SphericalPoint,
+    pub after: SphericalPoint,
+}
+
+pub(crate) fn plane_of(arc: [[f64; 3]; 2]) -> Plane
+    ensures { λ r. ⌜ r ≡ planeOf (legOf arc) ⌝ }
+{
+    let from = start_of(arc);
+    let to = end_of(arc);
+    let normal = sphericalpoint::xyz_cross(from, to);
+    let before = sphericalpoint::xyz_neg(sphericalpoint::xyz_cross(from, normal));
+    let after = sphericalpoint::xyz_cross(to, normal);
+    Plane {
+        from,
+        to,
+        normal,
+        before,
+        after,
+    }
+}
+
+fn side_values(a: Plane, b: Plane, t: SphericalPoint) -> [f64; 4]
+    ensures { λ r. ⌜ r ≡ planeSides a b t ⌝ }
+{
+    [
+        sphericalpoint::xyz_dot(a.before, t),
+        sphericalpoint::xyz_dot(a.after, t),
+        sphericalpoint::xyz_dot(b.before, t),
+        sphericalpoint::xyz_dot(b.after, t),
+    ]
+}
+
+// Whether a side value grazes: it is zero.
+fn is_grazing(x: f64) -> bool
+    ensures { λ r. ⌜ r ≡ grazes x ⌝ }
+{
+    x == 0.0
+}
+
+// Whether the sign bit is set, of a zero too: one over a zero is the infinity of its sign.
+fn is_sign_negative(x: f64) -> bool
+    ensures { λ r. ⌜ r ≡ signNegative x ⌝ }
+{
+    if x == 0.0 {
+        return 1.0 / x < 0.0;
+    }
+    x < 0.0
+}
+
+// Whether the sign bit is clear, of a zero too.
+fn is_sign_positive(x: f64) -> bool
+    ensures { λ r. ⌜ r ≡ signPositive x ⌝ }
+{
+    if x == 0.0 {
+        return 1.0 / x > 0.0;
+    }
+    x > 0.0
+}
+
+fn some_grazing(s: [f64; 4]) -> bool
+    ensures { λ r. ⌜ r ≡ someSide grazes s ⌝ }
+{
+    is_grazing(s[0]) | is_grazing(s[1]) | is_grazing(s[2]) | is_grazing(s[3])
+}
+
+fn all_above(s: [f64; 4]) -> bool
+    ensures { λ r. ⌜ r ≡ everySide isAbove s ⌝ }
+{
+    (s[0] > 0.0) & (s[1] > 0.0) & (s[2] > 0.0) & (s[3] > 0.0)
+}
+
+fn all_below(s: [f64; 4]) -> bool
+    ensures { λ r. ⌜ r ≡ everySide isBelow s ⌝ }
+{
+    (s[0] < 0.0) & (s[1] < 0.0) & (s[2] < 0.0) & (s[3] < 0.0)
+}
+
+fn all_sign_positive(s: [f64; 4]) -> bool
+    ensures { λ r. ⌜ r ≡ everySide signPositive s ⌝ }
+{
+    is_sign_positive(s[0])
+        & is_sign_positive(s[1])
+        & is_sign_positive(s[2])
+        & is_sign_positive(s[3])
+}
+
+fn all_sign_negative(s: [f64; 4]) -> bool
+    ensures { λ r. ⌜ r ≡ everySide signNegative s ⌝ }
+{
+    is_sign_negative(s[0])
+        & is_sign_negative(s[1])
+        & is_sign_negative(s[2])
+        & is_sign_negative(s[3])
+}
+
+// Whether a point is equal to one of the four leg ends.
+fn at_end(
+    p: SphericalPoint,
+    a0: SphericalPoint,
+    a1: SphericalPoint,
+    b0: SphericalPoint,
+    b1: SphericalPoint,
+) -> bool
+    ensures { λ r. ⌜ r ≡ atEnd p (leg a0 a1) (leg b0 b1) ⌝ }
+{
+    sphericalpoint::xyz_eq(p, a0)
+        | sphericalpoint::xyz_eq(p, a1)
+        | sphericalpoint::xyz_eq(p, b0)
+        | sphericalpoint::xyz_eq(p, b1)
+}
+
+// A grazing pair's point is kept unless it is an end.
+fn kept_point(
+    p: SphericalPoint,
+    a0: SphericalPoint,
+    a1: SphericalPoint,
+    b0: SphericalPoint,
+    b1: SphericalPoint,
+) -> Outcome
+    ensures { λ r. ⌜ r ≡ keptPoint p (leg a0 a1) (leg b0 b1) ⌝ }
+{
+    if at_end(p, a0, a1, b0, b1) {
+        Outcome::Dropped
+    } else {
+        Outcome::Kept(p)
+    }
+}
+
+// What the source does with a grazing pair.
+fn grazing_outcome(
+    t: SphericalPoint,
+    a0: SphericalPoint,
+    a1: SphericalPoint,
+    b0: SphericalPoint,
+    b1: SphericalPoint,
+    s: [f64; 4],
+) -> Outcome
+    ensures { λ r. ⌜ r ≡ grazingOutcome t (leg a0 a1) (leg b0 b1) s ⌝ }
+{
+    if all_sign_positive(s) {
+        return kept_point(t, a0, a1, b0, b1);
+    }
+    if all_sign_negative(s) {
+        return kept_point(sphericalpoint::xyz_neg(t), a0, a1, b0, b1);
+    }
+    Outcome::Dropped
+}
+
+// The signs agree: an end if the point is one of the four, else clean.
+fn end_or_clean(
+    p: SphericalPoint,
+    a0: SphericalPoint,
+    a1: SphericalPoint,
+    b0: SphericalPoint,
+    b1: SphericalPoint,
+) -> Pair
+    ensures { λ r. ⌜ r ≡ endOrClean p (leg a0 a1) (leg b0 b1) ⌝ }
+{
+    if at_end(p, a0, a1, b0, b1) {
+        Pair::End(p)
+    } else {
+        Pair::Clean(p)
+    }
+}
+
+// The class by the four side values.
+fn class_at(
+    t: SphericalPoint,
+    a0: SphericalPoint,
+    a1: SphericalPoint,
+    b0: SphericalPoint,
+    b1: SphericalPoint,
+    s: [f64; 4],
+) -> Pair
+    ensures { λ r. ⌜ r ≡ classAt t (leg a0 a1) (leg b0 b1) s ⌝ }
+{
+    if some_grazing(s) {
+        return Pair::Grazing(grazing_outcome(t, a0, a1, b0, b1, s));
+    }
+    if all_above(s) {
+        return end_or_clean(t, a0, a1, b0, b1);
+    }
+    if all_below(s) {
+        return end_or_clean(sphericalpoint::xyz_neg(t), a0, a1, b0, b1);
+    }
+    Pair::Apart
+}
+
+// The class of a pair of legs, by what was worked out for each.
+pub(crate) fn planes_pair(a: Plane, b: Plane) -> Pair
+    requires { ⌜ (a ≡ planeOf (planeLeg a)) × (b ≡ planeOf (planeLeg b)) ⌝ }
+    ensures { λ r. ⌜ r ≡ pairOf (planeLeg a) (planeLeg b) ⌝ }
+{
+    let t = sphericalpoint::xyz_cross(a.normal, b.normal);
+    class_at(t, a.from, a.to, b.from, b.to, side_values(a, b, t))
+}
+
+// The class of a pair of legs, each an array of two arrays of three.
+fn pair_of(arc_a: [[f64; 3]; 2], arc_b: [[f64; 3]; 2]) -> Pair
+    ensures { λ r. ⌜ r ≡ pairOf (legOf «arc_a») (legOf «arc_b») ⌝ }
+{
+    planes_pair(plane_of(arc_a), plane_of(arc_b))
+}
+
+// A leg by itself: 4 for its start or its end.
+pub fn check_leg(arc: [[f64; 3]; 2]) -> Checked
+    ensures { λ r. ⌜ checkNumber r ≡ legCheck (legOf arc) ⌝ }
+{
+    check::first_of(
+        check::check_point(start_of(arc)),
+        check::check_point(end_of(arc)),
+    )
+}
+
+// The class of a pair of legs. Refuses by 4 of the first leg, then of the second.
+pub fn arcs_crossing(arc_a: [[f64; 3]; 2], arc_b: [[f64; 3]; 2]) -> Crossed
+    ensures { λ r. ⌜ crossedAnswer r ≡ arcsCrossing (legOf «arc_a») (legOf «arc_b») ⌝ }
+{
+    let checked = check::first_of(check_leg(arc_a), check_leg(arc_b));
+    match checked {
+        Checked::Refused(e) => Crossed::Refused(e),
+        Checked::Accepted => Crossed::Pair(pair_of(arc_a, arc_b)),
+    }
+}

@@ -1,8 +1,0 @@
-pub mod Steps
-pub mod Simplify
-pub mod Insert
-pub mod SplitLeg
-pub mod Split
-pub mod Relation
-pub mod Work
-pub mod Kept

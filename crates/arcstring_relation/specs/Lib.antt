@@ -1,0 +1,3 @@
+pub mod OnString
+pub mod Relation
+pub mod Measure

@@ -1,0 +1,13 @@
+-- The laws of simplified strings. For others to cite: `Simplified` (simplifying twice is simplifying once, an open string is never refused, what simplifying keeps) and `SimplifiedAccepted`. The rest serves these and the functions' proofs.
+pub mod Simplified
+pub mod SimplifiedAccepted
+mod Removals
+mod OneRound
+mod Rounds
+mod Judgements
+mod Keeps
+mod RoundSteps
+mod Simplifies
+mod Overlaps
+mod Copies
+mod Equals

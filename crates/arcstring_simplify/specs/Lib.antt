@@ -1,0 +1,3 @@
+pub mod Simplify
+pub mod Relation
+pub mod Kept

@@ -1,0 +1,115 @@
+-- `cut_at_points` cuts at each of the points in turn: what is left to do from the pieces that stand there gives the whole answer. Assumes nothing.
+use mathlib.Core.Path.{_≡_, refl, sym, _∙_}
+use Prim.Native.Nat.{_-_, _≤_}
+use native.Mathlib.Omega.{arith}
+use lib.ListN.{length, drop}
+use Rattle.arcstring.specs.Points.{points}
+use Rattle.arcstring_split.specs.Steps.{forEach}
+use Rattle.arcstring_split.specs.Split.{cutString}
+use Rattle.arcstring_split.specs.Pieces.{firstPieces, Stands}
+use Rattle.arcstring_split.proofs.CutPlaces.{counted-stand, points-end, points-step, points-stop}
+use borrow.Author.Needs.{needs}
+use Rattle.arcstring_split.proofs.cut_place.cut_at_points.Statement.{statement}
+use Rattle.arcstring_split.proofs.cut_place.cut_at_points.Tie as tie
+
+abbrev Inv-loop : tie.InvT-loop
+Inv-loop work₀ counts₀ flags₀ m extra number copy₀ more₀ i₀ work counts flags copy more i =
+    (i ≤ number) × (length copy ≡ 3072) × Stands more work counts flags
+    × (forEach cutString (drop i (points extra)) (firstPieces more work counts flags) ≡ forEach cutString (points extra) (firstPieces m work₀ counts₀ flags₀))
+
+abbrev μ-loop : tie.MeasureT-loop
+μ-loop work₀ counts₀ flags₀ m extra number copy₀ more₀ i₀ work counts flags copy more i = number - i
+
+loop-holds : tie.Need-loop-holds Inv-loop μ-loop
+loop-holds c = (omega arith, refl, c .before .before .before .before .pre .0, refl)
+
+vertex-at-requires : tie.Need-vertex-at-requires Inv-loop μ-loop
+vertex-at-requires c κs = omega arith
+
+slice-aggregate-cut-string : tie.Need-slice-aggregate-cut-string Inv-loop μ-loop
+slice-aggregate-cut-string c = sym (c .before .before .before .before .before .before .loop .inv .1)
+
+cut-string-requires : tie.Need-cut-string-requires Inv-loop μ-loop
+cut-string-requires c κs = (c .before .before .before .before .before .before .loop .inv .2, c .before .before .before .before .before .before .loop .inv .1)
+
+enum-known-cut : tie.Need-enum-known-cut Inv-loop μ-loop
+enum-known-cut c = search needs
+
+enum-told : tie.Need-enum-told Inv-loop μ-loop
+enum-told c = search needs
+
+same-length : tie.Need-same-length Inv-loop μ-loop
+same-length c = c .before .before .before .before .before .before .before .before .before .cut-string .ensures .1 .floats ∙ sym (c .before .before .before .before .before .before .before .before .before .before .before .before .before .before .before .before .before .before .before .before .before .pre .0 .floats)
+
+same-length-2 : tie.Need-same-length-2 Inv-loop μ-loop
+same-length-2 c = c .before .before .before .before .before .before .before .before .before .cut-string .ensures .1 .counts-room ∙ sym (c .before .before .before .before .before .before .before .before .before .before .before .before .before .before .before .before .before .before .before .before .before .pre .0 .counts-room)
+
+same-length-3 : tie.Need-same-length-3 Inv-loop μ-loop
+same-length-3 c = c .before .before .before .before .before .before .before .before .before .cut-string .ensures .1 .flags-room ∙ sym (c .before .before .before .before .before .before .before .before .before .before .before .before .before .before .before .before .before .before .before .before .before .pre .0 .flags-room)
+
+returns : tie.Need-returns Inv-loop μ-loop
+returns c = let cut = c .before .before .before .before .before .before .before .before .before .cut-string in
+    let d = c .before .before .before .before .before .before .before .before .before .before .before .before .before .before .before .before in
+    let s = d .before .before .before .before .before in
+    let a = s .args in
+    let w = d .loop in (
+      points-stop (a .extra .now) (a .number) (s .pre .1) _ (w .i) _ (w .inv .3) (c .before .before .before .before .before .before .before .before .before .before .before .before .before .before .before .loop-test .taken) _ (cut .result) _ _ _ (c .before .before .before .before .before .before .before .before .before .before .before .vertex-at .ensures) (cut .ensures .0) _ (c .enum-told .given .1),
+      cut .ensures .1,
+    )
+
+add-i : tie.Need-add-i Inv-loop μ-loop
+add-i c = omega arith
+
+loop-less : tie.Need-loop-less Inv-loop μ-loop
+loop-less c = omega arith
+
+loop-again : tie.Need-loop-again Inv-loop μ-loop
+loop-again c = let cut = c .before .before .before .before .before .before .before .before .before .before .cut-string in
+    let d = c .before .before .before .before .before .before .before .before .before .before .before .before .before .before .before .before .before in
+    let s = d .before .before .before .before .before in
+    let a = s .args in
+    let w = d .loop in (
+      omega (arith, c .before .before .before .before .before .before .before .before .before .before .before .before .before .before .before .before .loop-test .taken),
+      cut .kept .1 .1 .1 .1 .1 .0 ∙ w .inv .1,
+      counted-stand (cut .result) _ _ _ _ (c .before .cut .given .1) (cut .ensures .1),
+      points-step (a .extra .now) (a .number) (s .pre .1) _ (w .i) _ (w .inv .3) (c .before .before .before .before .before .before .before .before .before .before .before .before .before .before .before .before .loop-test .taken) _ (cut .result) _ _ _ (c .before .before .before .before .before .before .before .before .before .before .before .before .vertex-at .ensures) (cut .ensures .0) _ (c .before .cut .given .1),
+    )
+
+same-length-4 : tie.Need-same-length-4 Inv-loop μ-loop
+same-length-4 c = c .before .loop .inv .2 .floats ∙ sym (c .before .before .before .before .before .before .pre .0 .floats)
+
+same-length-5 : tie.Need-same-length-5 Inv-loop μ-loop
+same-length-5 c = c .before .loop .inv .2 .counts-room ∙ sym (c .before .before .before .before .before .before .pre .0 .counts-room)
+
+same-length-6 : tie.Need-same-length-6 Inv-loop μ-loop
+same-length-6 c = c .before .loop .inv .2 .flags-room ∙ sym (c .before .before .before .before .before .before .pre .0 .flags-room)
+
+returns-2 : tie.Need-returns-2 Inv-loop μ-loop
+returns-2 c = let s = c .before .before .before .before .before .before in
+    let a = s .args in
+    let w = c .before .loop in
+    (points-end (a .extra .now) (a .number) (s .pre .1) _ (w .i) _ (w .inv .3) (omega arith), w .inv .2)
+
+pub cut-at-points-spec : {M : Type 1} → statement M
+cut-at-points-spec =
+    tie.close
+    (tie.spec
+    Inv-loop
+    μ-loop
+    loop-holds
+    vertex-at-requires
+    slice-aggregate-cut-string
+    cut-string-requires
+    enum-known-cut
+    enum-told
+    same-length
+    same-length-2
+    same-length-3
+    returns
+    add-i
+    loop-less
+    loop-again
+    same-length-4
+    same-length-5
+    same-length-6
+    returns-2)

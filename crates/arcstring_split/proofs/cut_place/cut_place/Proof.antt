@@ -1,0 +1,93 @@
+-- `cut_place` walks over the legs of a copy of the string at place k. Assumes nothing.
+use mathlib.Core.Path.{sym, _∙_}
+use Prim.Native.Nat.{_+_, _*_, _≤_}
+use native.Mathlib.Omega.{arith}
+use lib.ListN.{length, getD}
+use lib.Seq.{length-take-le}
+use Rattle.arcstring_split.proofs.CutLists.{place-some}
+use Rattle.arcstring_split.proofs.CutPlaces.{place-within, place-walk}
+use borrow.Author.Needs.{needs}
+use Rattle.arcstring_split.proofs.cut_place.cut_place.Statement.{statement}
+use Rattle.arcstring_split.proofs.cut_place.cut_place.Tie as tie
+
+-- the string at place k lies within the list, and is not empty
+within : (s : tie.Start) → s .args .at + getD (s .args .counts .now) (s .args .k) 0 ≤ 1024
+within s = place-within (s .args .work .now) (s .args .counts .now) (s .args .flags .now) (s .args .m) (s .pre .2) (s .args .k) (s .pre .0) (s .args .at) (s .pre .1)
+
+some : (s : tie.Start) → 1 ≤ getD (s .args .counts .now) (s .args .k) 0
+some s = place-some (s .args .work .now) (s .args .counts .now) (s .args .flags .now) (s .args .m) (s .pre .2) (s .args .k) (s .pre .0)
+
+-- and the copy has room for it
+room : (c : tie.After-copy-run) → 3 * getD (c .before .before .before .before .before .before .before .before .args .counts .now) (c .before .before .before .before .before .before .before .before .args .k) 0 ≤ length (c .copy-run .last .1 .1 .1 .0)
+room c = omega (arith, within (c .before .before .before .before .before .before .before .before), c .copy-run .kept .1 .1 .1 .0, c .before .before .before .before .before .before .before .before .pre .3)
+
+mul-n : tie.Need-mul-n
+mul-n c = search needs
+
+slice-read-n : tie.Need-slice-read-n
+slice-read-n c = search needs
+
+copy-run-requires : tie.Need-copy-run-requires
+copy-run-requires c κs = let s = c .before .before .before .before .before .before .before in (omega (arith, within s, s .pre .2 .floats), omega (arith, within s, s .pre .3))
+
+mul-end : tie.Need-mul-end
+mul-end c = omega (arith, within (c .before .before .before .before .before .before .before .before .before .before))
+
+mul-leg-count : tie.Need-mul-leg-count
+mul-leg-count c = search needs
+
+slice-read-leg-count : tie.Need-slice-read-leg-count
+slice-read-leg-count c = search needs
+
+leg-count-requires : tie.Need-leg-count-requires
+leg-count-requires c κs = some (c .before .before .before .before .before .before .before .before .before .before .before)
+
+slice-reshare-prefix-cut-legs-of : tie.Need-slice-reshare-prefix-cut-legs-of
+slice-reshare-prefix-cut-legs-of c = room (c .before .before .before .before)
+
+slice-aggregate-cut-legs-of : tie.Need-slice-aggregate-cut-legs-of
+slice-aggregate-cut-legs-of c = sym (length-take-le _ _ (room (c .before .before .before .before .before)))
+
+cut-legs-of-requires : tie.Need-cut-legs-of-requires
+cut-legs-of-requires c κs = let s = c .before .before .before .before .before .before .before .before .before .before .before .before .before .before .before .before in
+    (length-take-le _ _ (room (c .before .before .before .before .before .before .before .before)), c .before .before .before .before .leg-count .ensures .1, omega (arith, within s), s .pre .0, s .pre .1, s .pre .2)
+
+same-length : tie.Need-same-length
+same-length c = search needs
+
+same-length-2 : tie.Need-same-length-2
+same-length-2 c = search needs
+
+same-length-3 : tie.Need-same-length-3
+same-length-3 c = search needs
+
+same-length-4 : tie.Need-same-length-4
+same-length-4 c = search needs
+
+returns : tie.Need-returns
+returns c = let s = c .before .before .before .before .before .before .before .before .before .before .before .before .before .before .before .before .before .before .before .before .before .before .before in
+    let a = s .args in
+    let walk = c .before .before .before .before .before .before .cut-legs-of in (
+      walk .ensures .0 ∙ place-walk (a .work .now) (a .counts .now) (a .flags .now) (a .m) (s .pre .2) (a .k) (s .pre .0) (a .at) (s .pre .1) (a .p) _ _ _ (c .before .before .before .before .before .before .before .before .before .before .before .before .before .before .before .copy-run .ensures) (c .before .before .before .before .before .before .before .before .before .before .before .leg-count .ensures .0),
+      walk .ensures .1,
+    )
+
+pub cut-place-spec : {M : Type 1} → statement M
+cut-place-spec =
+    tie.close
+    (tie.spec
+    mul-n
+    slice-read-n
+    copy-run-requires
+    mul-end
+    mul-leg-count
+    slice-read-leg-count
+    leg-count-requires
+    slice-reshare-prefix-cut-legs-of
+    slice-aggregate-cut-legs-of
+    cut-legs-of-requires
+    same-length
+    same-length-2
+    same-length-3
+    same-length-4
+    returns)

@@ -1,0 +1,135 @@
+-- `cut_string` walks over the places that there are before the point; each starts where the one before it ends. Assumes nothing.
+use mathlib.Core.Path.{_≡_, refl, sym, _∙_}
+use Prim.Native.Nat.{_-_, _≤_}
+use native.Mathlib.Omega.{arith}
+use lib.ListN.{length, take}
+use Rattle.arcstring_split.specs.Steps.{forPositions}
+use Rattle.arcstring_split.specs.Split.{cutPlace}
+use Rattle.arcstring_split.specs.Pieces.{firstPieces, sum}
+use Rattle.arcstring_split.proofs.CutWalks.{Walks, walk-start, walk-end, walk-stops}
+use Rattle.arcstring_split.proofs.CutPlaces.{place-step, string-walk}
+use borrow.Author.Needs.{needs}
+use Rattle.arcstring_split.proofs.cut_place.cut_string.Statement.{statement}
+use Rattle.arcstring_split.proofs.cut_place.cut_string.Tie as tie
+
+abbrev Inv-loop : tie.InvT-loop
+Inv-loop work₀ counts₀ flags₀ m p copy₀ more₀ at₀ k₀ work counts flags copy more at k =
+    (k ≤ m) × (at ≡ sum (take k counts)) × (length copy ≡ 3072) × Walks (cutPlace p) (forPositions (cutPlace p) 0 m (firstPieces m work₀ counts₀ flags₀)) m m k more work counts flags
+
+abbrev μ-loop : tie.MeasureT-loop
+μ-loop work₀ counts₀ flags₀ m p copy₀ more₀ at₀ k₀ work counts flags copy more at k = m - k
+
+loop-holds : tie.Need-loop-holds Inv-loop μ-loop
+loop-holds c = let s = c .before .before .before .before in
+    let a = s .args in
+    (omega arith, refl, s .pre .1, walk-start (cutPlace (a .p)) (a .m) (a .m) (a .work .now) (a .counts .now) (a .flags .now) (s .pre .0))
+
+cut-place-requires : tie.Need-cut-place-requires Inv-loop μ-loop
+cut-place-requires c κs = let w = c .before .before .before .before .before .loop in
+    let fewer = w .inv .3 .no-fewer in
+    (omega arith, w .inv .1, w .inv .3 .stands, w .inv .2)
+
+enum-known-cut : tie.Need-enum-known-cut Inv-loop μ-loop
+enum-known-cut c = search needs
+
+enum-told : tie.Need-enum-told Inv-loop μ-loop
+enum-told c = search needs
+
+same-length : tie.Need-same-length Inv-loop μ-loop
+same-length c = c .before .before .before .before .before .before .before .before .before .before .cut-place .ensures .1 .0 .floats ∙ sym (c .before .before .before .before .before .before .before .before .before .before .before .before .before .before .before .before .before .before .before .before .before .pre .0 .floats)
+
+same-length-2 : tie.Need-same-length-2 Inv-loop μ-loop
+same-length-2 c = c .before .before .before .before .before .before .before .before .before .before .cut-place .ensures .1 .0 .counts-room ∙ sym (c .before .before .before .before .before .before .before .before .before .before .before .before .before .before .before .before .before .before .before .before .before .pre .0 .counts-room)
+
+same-length-3 : tie.Need-same-length-3 Inv-loop μ-loop
+same-length-3 c = c .before .before .before .before .before .before .before .before .before .before .cut-place .ensures .1 .0 .flags-room ∙ sym (c .before .before .before .before .before .before .before .before .before .before .before .before .before .before .before .before .before .before .before .before .before .pre .0 .flags-room)
+
+same-length-4 : tie.Need-same-length-4 Inv-loop μ-loop
+same-length-4 c = c .before .before .before .before .before .before .before .before .before .before .cut-place .kept .1 .1 .1 .1 .1 .1 .1 .0 ∙ c .before .before .before .before .before .before .before .before .before .before .before .before .before .before .before .before .loop .inv .2 ∙ sym (c .before .before .before .before .before .before .before .before .before .before .before .before .before .before .before .before .before .before .before .before .before .pre .1)
+
+returns : tie.Need-returns Inv-loop μ-loop
+returns c = let cut = c .before .before .before .before .before .before .before .before .before .before .cut-place in
+    let d = c .before .before .before .before .before .before .before .before .before .before .before .before .before .before .before .before in
+    let s = d .before .before .before .before .before in
+    let a = s .args in
+    let w = d .loop in (
+      walk-stops (cutPlace (a .p)) (a .m) (a .m) (w .work) (w .counts) (w .flags) _ (w .k) (w .more) (w .inv .3) (cut .result) _ _ _ (c .before .before .before .before .before .before .before .before .before .before .before .before .before .before .before .loop-test .taken) (cut .ensures .0) _ (c .enum-told .given .1)
+          ∙ string-walk (a .p) (a .work .now) (a .counts .now) (a .flags .now) (a .m) (s .pre .0),
+      cut .ensures .1 .0,
+    )
+
+mul-at : tie.Need-mul-at Inv-loop μ-loop
+mul-at c = search needs
+
+slice-read-at : tie.Need-slice-read-at Inv-loop μ-loop
+slice-read-at c = let l = c .before .before .before .before .before .before .before .before .before .before .before .before .cut-place .ensures .1 .0 .counts-room in let f = c .before .before .before .before .before .before .before .before .before .before .before .before .before .before .before .before .before .before .before .before .before .before .before .pre .0 .pieces in omega arith
+
+add-at : tie.Need-add-at Inv-loop μ-loop
+add-at c = let cut = c .before .before .before .before .before .before .before .before .before .before .before .before .cut-place in
+    let d = c .before .before .before .before .before .before .before .before .before .before .before .before .before .before .before .before .before .before in
+    let a = d .before .before .before .before .before .args in
+    let w = d .loop in
+    let next = place-step (a .p) (a .m) (w .work) (w .counts) (w .flags) _ (w .k) (w .more) (w .at) (w .inv .3) (cut .result) _ _ _ (c .before .before .before .before .before .before .before .before .before .before .before .before .before .before .before .before .before .loop-test .taken) (cut .ensures .0) _ (c .before .before .cut .given .1) (cut .ensures .1 .0) (w .inv .1) (cut .ensures .1 .1) in
+    omega (arith, next .0)
+
+add-k : tie.Need-add-k Inv-loop μ-loop
+add-k c = omega arith
+
+loop-less : tie.Need-loop-less Inv-loop μ-loop
+loop-less c = omega arith
+
+loop-again : tie.Need-loop-again Inv-loop μ-loop
+loop-again c = let cut = c .before .before .before .before .before .before .before .before .before .before .before .before .cut-place in
+    let d = c .before .before .before .before .before .before .before .before .before .before .before .before .before .before .before .before .before .before in
+    let a = d .before .before .before .before .before .args in
+    let w = d .loop in
+    let next = place-step (a .p) (a .m) (w .work) (w .counts) (w .flags) _ (w .k) (w .more) (w .at) (w .inv .3) (cut .result) _ _ _ (c .before .before .before .before .before .before .before .before .before .before .before .before .before .before .before .before .before .loop-test .taken) (cut .ensures .0) _ (c .before .before .cut .given .1) (cut .ensures .1 .0) (w .inv .1) (cut .ensures .1 .1) in
+    (omega (arith, c .before .before .before .before .before .before .before .before .before .before .before .before .before .before .before .before .before .loop-test .taken), next .1, cut .kept .1 .1 .1 .1 .1 .1 .1 .0 ∙ w .inv .2, next .2)
+
+same-length-5 : tie.Need-same-length-5 Inv-loop μ-loop
+same-length-5 c = c .before .loop .inv .3 .stands .floats ∙ sym (c .before .before .before .before .before .before .pre .0 .floats)
+
+same-length-6 : tie.Need-same-length-6 Inv-loop μ-loop
+same-length-6 c = c .before .loop .inv .3 .stands .counts-room ∙ sym (c .before .before .before .before .before .before .pre .0 .counts-room)
+
+same-length-7 : tie.Need-same-length-7 Inv-loop μ-loop
+same-length-7 c = c .before .loop .inv .3 .stands .flags-room ∙ sym (c .before .before .before .before .before .before .pre .0 .flags-room)
+
+same-length-8 : tie.Need-same-length-8 Inv-loop μ-loop
+same-length-8 c = c .before .loop .inv .2 ∙ sym (c .before .before .before .before .before .before .pre .1)
+
+returns-2 : tie.Need-returns-2 Inv-loop μ-loop
+returns-2 c = let s = c .before .before .before .before .before .before in
+    let a = s .args in
+    let w = c .before .loop in (
+      walk-end (cutPlace (a .p)) (a .m) (a .m) (w .work) (w .counts) (w .flags) _ (w .k) (w .more) (w .inv .3) (omega arith)
+          ∙ string-walk (a .p) (a .work .now) (a .counts .now) (a .flags .now) (a .m) (s .pre .0),
+      w .inv .3 .stands,
+    )
+
+pub cut-string-spec : {M : Type 1} → statement M
+cut-string-spec =
+    tie.close
+    (tie.spec
+    Inv-loop
+    μ-loop
+    loop-holds
+    cut-place-requires
+    enum-known-cut
+    enum-told
+    same-length
+    same-length-2
+    same-length-3
+    same-length-4
+    returns
+    mul-at
+    slice-read-at
+    add-at
+    add-k
+    loop-less
+    loop-again
+    same-length-5
+    same-length-6
+    same-length-7
+    same-length-8
+    returns-2)

@@ -1,0 +1,50 @@
+-- `replace_run` writes what follows the run after the fresh vertices, and both in the run's place. Assumes nothing.
+use Prim.Native.Nat.{_+_, _-_}
+use native.Mathlib.Omega.{arith}
+use Rattle.arcstring_split.proofs.Runs.{run-replaced}
+use borrow.Author.Needs.{needs}
+use Rattle.arcstring_split.proofs.cut_place.replace_run.Statement.{statement}
+use Rattle.arcstring_split.proofs.cut_place.replace_run.Tie as tie
+
+add-rest : tie.Need-add-rest
+add-rest c = search needs
+
+sub-rest : tie.Need-sub-rest
+sub-rest c = search needs
+
+add-copy-run : tie.Need-add-copy-run
+add-copy-run c = search needs
+
+copy-run-requires : tie.Need-copy-run-requires
+copy-run-requires c κs = search needs
+
+add-copy-run-2 : tie.Need-add-copy-run-2
+add-copy-run-2 c = search needs
+
+copy-run-requires-2 : tie.Need-copy-run-requires-2
+copy-run-requires-2 c κs = search needs
+
+same-length : tie.Need-same-length
+same-length c = search needs
+
+same-length-2 : tie.Need-same-length-2
+same-length-2 c = search needs
+
+returns : tie.Need-returns
+returns c = let s = c .before .before .before .before .before .before .before .before .before .before .before .before in
+    let a = s .args in
+    run-replaced (a .work .now) (a .fresh .now) _ _ (a .at) (a .old) (a .size) (a .total - (a .at + a .old)) (omega arith) (omega arith) (c .before .before .before .before .before .before .before .copy-run .ensures) (c .before .before .copy-run2 .ensures)
+
+pub replace-run-spec : {M : Type 1} → statement M
+replace-run-spec =
+    tie.close
+    (tie.spec
+    add-rest
+    sub-rest
+    add-copy-run
+    copy-run-requires
+    add-copy-run-2
+    copy-run-requires-2
+    same-length
+    same-length-2
+    returns)

@@ -1,0 +1,118 @@
+-- `insert_point` walks over the legs: the walk that is left, from the points that stand in the list, gives the whole answer. Assumes nothing.
+use mathlib.Core.Path.{_≡_, refl, sym, _∙_}
+use Prim.Native.Nat.{_≤_, _+_, _-_, _*_}
+use native.Mathlib.Omega.{arith}
+use lib.ListN.{length}
+use lib.Seq.{length-take-le}
+use borrow.Author.Needs.{needs}
+use borrow.Author.Tests.{not-true, not-false}
+use Rattle.arcstring.specs.Work.{firstOfList}
+use Rattle.arcstring_split.specs.Insert.{insertPoint, insertWalk}
+use Rattle.arcstring_split.proofs.InsertWalks.{walk-begin, walk-past, walk-full, walk-on, walk-end}
+use Rattle.arcstring_split.proofs.insert.insert_point.Statement.{statement}
+use Rattle.arcstring_split.proofs.insert.insert_point.Tie as tie
+
+abbrev Inv-loop : tie.InvT-loop
+Inv-loop work₀ n closed p legs m₀ k₀ i₀ work m k i =
+    (i ≤ legs) × (k + (legs - i) ≤ m) × (m ≤ 1024) × (length work ≡ length work₀) × (insertWalk p k (legs - i) (firstOfList m work) ≡ insertPoint closed p (firstOfList n work₀))
+
+abbrev μ-loop : tie.MeasureT-loop
+μ-loop work₀ n closed p legs m₀ k₀ i₀ work m k i = legs - i
+
+leg-count-requires : tie.Need-leg-count-requires Inv-loop μ-loop
+leg-count-requires c κs = omega arith
+
+loop-holds : tie.Need-loop-holds Inv-loop μ-loop
+loop-holds c = let s = c .before .before in
+    (omega arith, omega arith, s .pre .1, refl, walk-begin (s .args .p) (s .args .work .now) (s .args .n) _ (s .args .closed) (omega arith) (c .leg-count .ensures .0))
+
+add-i : tie.Need-add-i Inv-loop μ-loop
+add-i c = omega arith
+
+mul-end : tie.Need-mul-end Inv-loop μ-loop
+mul-end c = omega arith
+
+slice-reshare-prefix-leg-at : tie.Need-slice-reshare-prefix-leg-at Inv-loop μ-loop
+slice-reshare-prefix-leg-at c = omega arith
+
+slice-aggregate-leg-at : tie.Need-slice-aggregate-leg-at Inv-loop μ-loop
+slice-aggregate-leg-at c = let d = c .before .before in sym (length-take-le (3 * d .loop .m) (d .loop .work) (omega arith))
+
+leg-at-requires : tie.Need-leg-at-requires Inv-loop μ-loop
+leg-at-requires c κs = let d = c .before .before in (length-take-le (3 * d .loop .m) (d .loop .work) (omega arith), omega arith)
+
+along-leg-requires : tie.Need-along-leg-requires Inv-loop μ-loop
+along-leg-requires c κs = search needs
+
+add-k : tie.Need-add-k Inv-loop μ-loop
+add-k c = omega arith
+
+loop-less : tie.Need-loop-less Inv-loop μ-loop
+loop-less c = omega arith
+
+loop-again : tie.Need-loop-again Inv-loop μ-loop
+loop-again c = let d = c .before .before .before .before .before in
+    let s = d .before .before .before in
+    (omega arith, omega arith, d .loop .inv .2, d .loop .inv .3, walk-past (s .args .p) (d .loop .work) (d .loop .m) (d .loop .k) _ (d .loop .i) _ (d .loop .inv .4) _ _ (c .before .before .before .before .loop-test .taken) (omega arith) (omega arith) (c .before .before .leg-at .ensures) (c .before .along-leg .ensures) (not-true _ (c .if1 .taken)))
+
+same-length : tie.Need-same-length Inv-loop μ-loop
+same-length c = c .before .before .before .before .before .before .loop .inv .3
+
+returns : tie.Need-returns Inv-loop μ-loop
+returns c = let d = c .before .before .before .before .before .before in
+    let s = d .before .before .before in
+    (walk-full (s .args .p) (d .loop .work) (d .loop .m) (d .loop .k) _ (d .loop .i) _ (d .loop .inv .4) _ _ (c .before .before .before .before .before .loop-test .taken) (omega arith) (omega arith) (c .before .before .before .leg-at .ensures) (c .before .before .along-leg .ensures) (not-false _ (c .before .if1 .left)) (c .if2 .taken), omega arith)
+
+insert-vertex-requires : tie.Need-insert-vertex-requires Inv-loop μ-loop
+insert-vertex-requires c κs = omega arith
+
+add-m : tie.Need-add-m Inv-loop μ-loop
+add-m c = omega arith
+
+add-k-2 : tie.Need-add-k-2 Inv-loop μ-loop
+add-k-2 c = omega arith
+
+loop-less-2 : tie.Need-loop-less-2 Inv-loop μ-loop
+loop-less-2 c = omega arith
+
+loop-again-2 : tie.Need-loop-again-2 Inv-loop μ-loop
+loop-again-2 c = let a = c .before .before .before .before in
+    let d = a .before .before .before .before .before .before in
+    let s = d .before .before .before in
+    let put = c .before .before .insert-vertex in
+    (omega arith, omega arith, omega arith, put .kept .0 ∙ d .loop .inv .3, walk-on (s .args .p) (d .loop .work) (d .loop .m) (d .loop .k) _ (d .loop .i) _ (d .loop .inv .4) _ _ (a .before .before .before .before .before .loop-test .taken) (omega arith) (omega arith) (a .before .before .before .leg-at .ensures) (a .before .before .along-leg .ensures) _ (not-false _ (a .before .if1 .left)) (omega arith) (omega arith) (put .ensures))
+
+same-length-2 : tie.Need-same-length-2 Inv-loop μ-loop
+same-length-2 c = c .before .loop .inv .3
+
+returns-2 : tie.Need-returns-2 Inv-loop μ-loop
+returns-2 c = let d = c .before in
+    let s = d .before .before .before in
+    (walk-end (s .args .p) (d .loop .work) (d .loop .m) (d .loop .k) _ (d .loop .i) _ (d .loop .inv .4) (c .loop-test .left), d .loop .inv .2)
+
+pub insert-point-spec : {M : Type 1} → statement M
+insert-point-spec =
+    tie.close
+    (tie.spec
+    Inv-loop
+    μ-loop
+    leg-count-requires
+    loop-holds
+    add-i
+    mul-end
+    slice-reshare-prefix-leg-at
+    slice-aggregate-leg-at
+    leg-at-requires
+    along-leg-requires
+    add-k
+    loop-less
+    loop-again
+    same-length
+    returns
+    insert-vertex-requires
+    add-m
+    add-k-2
+    loop-less-2
+    loop-again-2
+    same-length-2
+    returns-2)

@@ -1,0 +1,243 @@
+// The pieces of a split string, cut in place in local lists: their vertices one piece after another, how many vertices each
+// has, and the flag of each.
+ghost use mathlib.Core.Path.{_≡_};
+ghost use mathlib.Core.List.{_++_, _∷_};
+ghost use Prim.Native.Nat.{_+_, _-_, _*_, _≤_, _<_};
+ghost use lib.ListN.{length, take, drop};
+ghost use Rattle.arcstring.specs.Answer.{flagNumber};
+ghost use Rattle.arcstring.specs.Points.{points};
+ghost use Rattle.arcstring.specs.Splice.{splice};
+ghost use Rattle.arcstring.specs.Build.{builtString};
+ghost use Rattle.arcstring.specs.Work.{firstOfList};
+ghost use Rattle.arcstring_split.specs.Steps.{forEach, forPositions};
+ghost use Rattle.arcstring_split.specs.Pieces.{sum, firstPieces, heldPieces, cutCount, Stands};
+ghost use Rattle.arcstring_split.specs.Split.{firstPoints, secondPoints, cutAt, cutAtLeg, cutString};
+ghost use Rattle.arcstring_split.specs.Split as Split;
+use crate::piece;
+use crate::piece::Piece;
+use crate::split::Cut;
+use arcstring::check::Refusal;
+use arcstring::vertex;
+use arcstring_crossing::tally;
+use arcstring_relation::on_string;
+use sphericalpoint::SphericalPoint;
+
+// The sum of the first m numbers.
+pub(crate) fn sum_of(list: &[usize], m: usize) -> usize
+    requires { ⌜ (m ≤ length (now list)) × (sum (take m (now list)) ≤ 1024) ⌝ }
+    ensures { λ r. ⌜ r ≡ sum (take m (now (list .entry))) ⌝ }
+{
+    let mut total = 0;
+    let mut i = 0;
+    while i < m {
+        total += list[i];
+        i += 1;
+    }
+    total
+}
+
+// The number at place k of m made `first`, and `second` put in after it; those after stand one place further.
+fn replace_number(list: &mut [usize], m: usize, k: usize, first: usize, second: usize)
+    requires { ⌜ (k < m) × (m < length (now list)) ⌝ }
+    ensures { λ _. ⌜ now (list .exit) ≡ splice (now (list .entry)) k (first ∷ second ∷ take (m - (k + 1)) (drop (k + 1) (now (list .entry)))) ⌝ }
+{
+    let mut i = m;
+    while i > k + 1 {
+        list[i] = list[i - 1];
+        i -= 1;
+    }
+    list[k] = first;
+    list[k + 1] = second;
+}
+
+// The two pieces of a cut.
+struct Halves {
+    first: Piece,
+    second: Piece,
+}
+
+// The pieces of a cut at leg i of the n vertices of `v`, each built from the place in `out` where the one before it ends.
+fn build_halves(v: &[f64], n: usize, i: usize, p: SphericalPoint, out: &mut [f64]) -> Halves
+    requires { ⌜ (length (now v) ≡ 3 * n) × (i < n) × (n ≤ 1024) × (length (now out) ≡ 6150) ⌝ }
+    ensures { λ r. ⌜ (r .first .count ≡ length (builtString (firstPoints p (points (now (v .entry))) i) .vertices)) × (r .first .flag ≡ flagNumber (builtString (firstPoints p (points (now (v .entry))) i) .closed)) × (1 ≤ r .first .count) ⌝ }
+    ensures { λ r. ⌜ (r .second .count ≡ length (builtString (secondPoints p (points (now (v .entry))) i) .vertices)) × (r .second .flag ≡ flagNumber (builtString (secondPoints p (points (now (v .entry))) i) .closed)) × (1 ≤ r .second .count) ⌝ }
+    ensures { λ r. ⌜ (firstOfList (r .first .count + r .second .count) (now (out .exit)) ≡ builtString (firstPoints p (points (now (v .entry))) i) .vertices ++ builtString (secondPoints p (points (now (v .entry))) i) .vertices) × (r .first .count + r .second .count ≤ 2050) ⌝ }
+{
+    let mut from = [0.0; 3078];
+    piece::first_points(v, i, p, &mut from);
+    let end = 3 * (i + 2);
+    let first = piece::build_piece(&from[..end], i + 2, out);
+    let count = piece::second_points(v, n, i, p, &mut from);
+    let end = 3 * count;
+    let at = 3 * first.count;
+    let second = piece::build_piece(&from[..end], count, &mut out[at..]);
+    Halves { first, second }
+}
+
+// `old` vertices from position `at` on made the first `size` of `fresh`; those after them, up to `total`, follow.
+fn replace_run(
+    work: &mut [f64],
+    at: usize,
+    old: usize,
+    total: usize,
+    fresh: &mut [f64],
+    size: usize,
+)
+    requires { ⌜ (at + old ≤ total) × (3 * total ≤ length (now work)) × (3 * (at + size + (total - (at + old))) ≤ length (now work)) × (3 * (size + (total - (at + old))) ≤ length (now fresh)) ⌝ }
+    ensures { λ _. ⌜ now (work .exit) ≡ splice (now (work .entry)) (3 * at) (take (3 * size) (now (fresh .entry)) ++ take (3 * (total - (at + old))) (drop (3 * (at + old)) (now (work .entry)))) ⌝ }
+{
+    let rest = total - (at + old);
+    vertex::copy_run(work, at + old, rest, fresh, size);
+    vertex::copy_run(fresh, 0, size + rest, work, at);
+}
+
+// A cut at leg i of `copy`: a new first piece takes place k, which starts at vertex `at`, and a new second piece stands after it.
+fn cut_at(
+    copy: &[f64],
+    n: usize,
+    i: usize,
+    p: SphericalPoint,
+    work: &mut [f64],
+    counts: &mut [usize],
+    flags: &mut [usize],
+    m: usize,
+    k: usize,
+    at: usize,
+) -> Cut
+    requires { ⌜ (length (now copy) ≡ 3 * n) × (i < n) × (n ≤ 1024) × (k < m) × (at ≡ sum (take k (now counts))) × Stands m (now work) (now counts) (now flags) ⌝ }
+    ensures { λ r. ⌜ heldPieces r (now (work .exit)) (now (counts .exit)) (now (flags .exit)) ≡ cutAt p (points (now (copy .entry))) k i (firstPieces m (now (work .entry)) (now (counts .entry)) (now (flags .entry))) ⌝ }
+    ensures { λ r. ⌜ Stands (cutCount r) (now (work .exit)) (now (counts .exit)) (now (flags .exit)) × (take k (now (counts .exit)) ≡ take k (now (counts .entry))) ⌝ }
+{
+    let mut fresh = [0.0; 6150];
+    let halves = build_halves(copy, n, i, p, &mut fresh);
+    let first = halves.first;
+    let second = halves.second;
+    let size = first.count + second.count;
+    let total = sum_of(counts, m);
+    let old = counts[k];
+    if at + size + (total - (at + old)) > 1024 {
+        return Cut::Refused(Refusal::TooManyPoints);
+    }
+    replace_run(work, at, old, total, &mut fresh, size);
+    replace_number(counts, m, k, first.count, second.count);
+    replace_number(flags, m, k, first.flag, second.flag);
+    Cut::Pieces(m + 1)
+}
+
+// The walk over the legs of `copy`, the string that stood at place k: each leg that the point is along is a cut there.
+fn cut_legs_of(
+    copy: &[f64],
+    n: usize,
+    legs: usize,
+    p: SphericalPoint,
+    work: &mut [f64],
+    counts: &mut [usize],
+    flags: &mut [usize],
+    m: usize,
+    k: usize,
+    at: usize,
+) -> Cut
+    requires { ⌜ (length (now copy) ≡ 3 * n) × (legs ≤ n) × (n ≤ 1024) × (k < m) × (at ≡ sum (take k (now counts))) × Stands m (now work) (now counts) (now flags) ⌝ }
+    ensures { λ r. ⌜ heldPieces r (now (work .exit)) (now (counts .exit)) (now (flags .exit)) ≡ forPositions (cutAtLeg p (points (now (copy .entry))) k) 0 legs (firstPieces m (now (work .entry)) (now (counts .entry)) (now (flags .entry))) ⌝ }
+    ensures { λ r. ⌜ Stands (cutCount r) (now (work .exit)) (now (counts .exit)) (now (flags .exit)) × (take k (now (counts .exit)) ≡ take k (now (counts .entry))) ⌝ }
+{
+    let mut more = m;
+    let mut i = 0;
+    while i < legs {
+        if !on_string::along_leg(p, tally::leg_at(copy, n, i)) {
+            i += 1;
+            continue;
+        }
+        let cut = cut_at(copy, n, i, p, work, counts, flags, more, k, at);
+        let Cut::Pieces(count) = cut else {
+            return cut;
+        };
+        more = count;
+        i += 1;
+    }
+    Cut::Pieces(more)
+}
+
+// One point at place k, which starts at vertex `at`: the walk goes over a copy of the string that stands there.
+fn cut_place(
+    work: &mut [f64],
+    counts: &mut [usize],
+    flags: &mut [usize],
+    m: usize,
+    k: usize,
+    at: usize,
+    p: SphericalPoint,
+    copy: &mut [f64],
+) -> Cut
+    requires { ⌜ (k < m) × (at ≡ sum (take k (now counts))) × Stands m (now work) (now counts) (now flags) × (length (now copy) ≡ 3072) ⌝ }
+    ensures { λ r. ⌜ heldPieces r (now (work .exit)) (now (counts .exit)) (now (flags .exit)) ≡ Split.cutPlace p k (firstPieces m (now (work .entry)) (now (counts .entry)) (now (flags .entry))) ⌝ }
+    ensures { λ r. ⌜ Stands (cutCount r) (now (work .exit)) (now (counts .exit)) (now (flags .exit)) × (take k (now (counts .exit)) ≡ take k (now (counts .entry))) ⌝ }
+{
+    let n = counts[k];
+    vertex::copy_run(work, at, n, copy, 0);
+    let end = 3 * n;
+    let legs = tally::leg_count(n, flags[k] != 0);
+    cut_legs_of(&copy[..end], n, legs, p, work, counts, flags, m, k, at)
+}
+
+// One point, at each of the m places that there are before it.
+fn cut_string(
+    work: &mut [f64],
+    counts: &mut [usize],
+    flags: &mut [usize],
+    m: usize,
+    p: SphericalPoint,
+    copy: &mut [f64],
+) -> Cut
+    requires { ⌜ Stands m (now work) (now counts) (now flags) × (length (now copy) ≡ 3072) ⌝ }
+    ensures { λ r. ⌜ heldPieces r (now (work .exit)) (now (counts .exit)) (now (flags .exit)) ≡ cutString p (firstPieces m (now (work .entry)) (now (counts .entry)) (now (flags .entry))) ⌝ }
+    ensures { λ r. ⌜ Stands (cutCount r) (now (work .exit)) (now (counts .exit)) (now (flags .exit)) ⌝ }
+{
+    let mut more = m;
+    let mut at = 0;
+    let mut k = 0;
+    while k < m {
+        let cut = cut_place(work, counts, flags, more, k, at, p, copy);
+        let Cut::Pieces(count) = cut else {
+            return cut;
+        };
+        more = count;
+        at += counts[k];
+        k += 1;
+    }
+    Cut::Pieces(more)
+}
+
+// Each of the points in turn, from the m pieces that stand there on.
+pub(crate) fn cut_at_points(
+    work: &mut [f64],
+    counts: &mut [usize],
+    flags: &mut [usize],
+    m: usize,
+    extra: &[f64],
+    number: usize,
+) -> Cut
+    requires { ⌜ Stands m (now work) (now counts) (now flags) × (length (now extra) ≡ 3 * number) ⌝ }
+    ensures { λ r. ⌜ heldPieces r (now (work .exit)) (now (counts .exit)) (now (flags .exit)) ≡ forEach cutString (points (now (extra .entry))) (firstPieces m (now (work .entry)) (now (counts .entry)) (now (flags .entry))) ⌝ }
+    ensures { λ r. ⌜ Stands (cutCount r) (now (work .exit)) (now (counts .exit)) (now (flags .exit)) ⌝ }
+{
+    let mut copy = [0.0; 3072];
+    let mut more = m;
+    let mut i = 0;
+    while i < number {
+        let cut = cut_string(
+            work,
+            counts,
+            flags,
+            more,
+            vertex::vertex_at(extra, i),
+            &mut copy,
+        );
+        let Cut::Pieces(count) = cut else {
+            return cut;
+        };
+        more = count;
+        i += 1;
+    }
+    Cut::Pieces(more)
+}

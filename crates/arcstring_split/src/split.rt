@@ -1,0 +1,173 @@
+// A leg and a string cut at points, as the source's `split_arc_at_points` and `split_arcstring_at_points` cut them.
+ghost use mathlib.Core.Path.{_≡_};
+ghost use mathlib.Core.Bool.{not};
+ghost use Prim.Native.Nat.{_≤_};
+ghost use lib.ListN.{length, take};
+ghost use lib.Dec.{eqb};
+ghost use Rattle.arcstring.specs.Answer.{leaves, mapAnswer, flagNumber};
+ghost use Rattle.arcstring.specs.Splice.{splice};
+ghost use Rattle.arcstring_crossing.specs.Crossing.{legOf};
+ghost use Rattle.arcstring_split.specs.Pieces.{cutCount, Stands, flagsOf, handedOver};
+ghost use Rattle.arcstring_split.specs.SplitLeg.{splitLeg, splitAnswer, legFloats, pieceCount, ofPieces};
+ghost use Rattle.arcstring_split.specs.Split.{pieceFloats, pieceCounts, pieceFlags, splitString};
+use crate::cut_leg;
+use crate::cut_place;
+use arcstring::check;
+use arcstring::check::Checked;
+use arcstring::check::Refusal;
+use arcstring::vertex;
+use arcstring_crossing::crossing;
+
+// What a split answers: how many pieces it wrote, or that nothing was cut.
+pub enum Split {
+    Uncut,
+    Pieces(usize),
+    Refused(Refusal),
+}
+
+// How many pieces stand in the local lists after a cut.
+pub(crate) enum Cut {
+    Pieces(usize),
+    Refused(Refusal),
+}
+
+// The leg cut at each of the points, as legs one after another, two points each. The second half of a cut is point, point. A
+// point equal to an end of a leg does not cut it. Uncut writes nothing. Refuses by 4 of the leg, by 1, 3 and 4 of the points, by
+// 3 where a cut makes more than 1,024 points, and by 7.
+pub fn split_arc_at_points(arc: [[f64; 3]; 2], extra: &[f64], out: &mut [f64]) -> Split
+    ensures { λ r. ⌜ splitAnswer r ≡ mapAnswer pieceCount (splitLeg (legOf arc) (now (extra .entry)) (length (now (out .entry)))) ⌝ }
+    ensures { λ _. ⌜ now (out .exit) ≡ leaves (mapAnswer (ofPieces legFloats) (splitLeg (legOf arc) (now (extra .entry)) (length (now (out .entry))))) (now (out .entry)) ⌝ }
+{
+    let checked = check::first_of(
+        crossing::check_leg(arc),
+        check::check_list(extra, Checked::Accepted),
+    );
+    if let Checked::Refused(e) = checked {
+        return Split::Refused(e);
+    }
+    let mut work = [0.0; 3072];
+    vertex::put_vertex(&mut work, 0, crossing::start_of(arc));
+    vertex::put_vertex(&mut work, 1, crossing::end_of(arc));
+    let cut = cut_leg::cut_at_points(&mut work, extra, extra.len() / 3);
+    match cut {
+        Cut::Refused(e) => Split::Refused(e),
+        Cut::Pieces(m) => {
+            if m < 2 {
+                return Split::Uncut;
+            }
+            if out.len() < 6 * m {
+                return Split::Refused(Refusal::NoRoom);
+            }
+            vertex::copy_run(&work, 0, 2 * m, out, 0);
+            Split::Pieces(m)
+        }
+    }
+}
+
+// The first m numbers of a local list copied out.
+fn copy_numbers(list: &[usize], m: usize, out: &mut [usize])
+    requires { ⌜ (m ≤ length (now list)) × (m ≤ length (now out)) ⌝ }
+    ensures { λ _. ⌜ now (out .exit) ≡ splice (now (out .entry)) 0 (take m (now (list .entry))) ⌝ }
+{
+    let mut i = 0;
+    while i < m {
+        out[i] = list[i];
+        i += 1;
+    }
+}
+
+// The first m flags of a local list copied out, each as 0 or 1.
+fn copy_flags(list: &[usize], m: usize, out: &mut [u8])
+    requires { ⌜ (m ≤ length (now list)) × (m ≤ length (now out)) ⌝ }
+    ensures { λ _. ⌜ now (out .exit) ≡ splice (now (out .entry)) 0 (flagsOf (take m (now (list .entry)))) ⌝ }
+{
+    let mut i = 0;
+    while i < m {
+        out[i] = flag_byte(list[i]);
+        i += 1;
+    }
+}
+
+fn flag_byte(flag: usize) -> u8
+    ensures { λ r. ⌜ r ≡ flagNumber (not (eqb flag 0)) ⌝ }
+{
+    if flag == 0 { 0 } else { 1 }
+}
+
+// The finished pieces copied out, or 7 where one of the three buffers is too short for them.
+fn hand_over(
+    work: &[f64],
+    sizes: &[usize],
+    closings: &[usize],
+    cut: Cut,
+    out: &mut [f64],
+    counts: &mut [usize],
+    flags: &mut [u8],
+) -> Split
+    requires { ⌜ Stands (cutCount cut) (now work) (now sizes) (now closings) ⌝ }
+    ensures { λ r. ⌜ splitAnswer r ≡ mapAnswer pieceCount (handedOver cut (now (work .entry)) (now (sizes .entry)) (now (closings .entry)) (length (now (out .entry))) (length (now (counts .entry))) (length (now (flags .entry)))) ⌝ }
+    ensures { λ _. ⌜ now (out .exit) ≡ leaves (mapAnswer (ofPieces pieceFloats) (handedOver cut (now (work .entry)) (now (sizes .entry)) (now (closings .entry)) (length (now (out .entry))) (length (now (counts .entry))) (length (now (flags .entry))))) (now (out .entry)) ⌝ }
+    ensures { λ _. ⌜ now (counts .exit) ≡ leaves (mapAnswer (ofPieces pieceCounts) (handedOver cut (now (work .entry)) (now (sizes .entry)) (now (closings .entry)) (length (now (out .entry))) (length (now (counts .entry))) (length (now (flags .entry))))) (now (counts .entry)) ⌝ }
+    ensures { λ _. ⌜ now (flags .exit) ≡ leaves (mapAnswer (ofPieces pieceFlags) (handedOver cut (now (work .entry)) (now (sizes .entry)) (now (closings .entry)) (length (now (out .entry))) (length (now (counts .entry))) (length (now (flags .entry))))) (now (flags .entry)) ⌝ }
+{
+    match cut {
+        Cut::Refused(e) => Split::Refused(e),
+        Cut::Pieces(m) => {
+            if m < 2 {
+                return Split::Uncut;
+            }
+            let total = cut_place::sum_of(sizes, m);
+            if (out.len() < 3 * total) | (counts.len() < m) | (flags.len() < m) {
+                return Split::Refused(Refusal::NoRoom);
+            }
+            vertex::copy_run(work, 0, total, out, 0);
+            copy_numbers(sizes, m, counts);
+            copy_flags(closings, m, flags);
+            Split::Pieces(m)
+        }
+    }
+}
+
+// The string cut at each of the points, as pieces one after another in `out`, with how many vertices each has in `counts`
+// and 1 for a closed piece, 0 for an open one, in `flags`. Every piece is built anew, so that it is normalised and may close;
+// its near list is its vertices. Uncut writes nothing. Refuses by 1, 3 and 4 of the vertices, then of the points, by 3 where
+// after a cut all pieces together have more than 1,024 vertices, and by 7 where one of the three buffers is too short.
+pub fn split_arcstring_at_points(
+    v: &[f64],
+    closed: bool,
+    extra: &[f64],
+    out: &mut [f64],
+    counts: &mut [usize],
+    flags: &mut [u8],
+) -> Split
+    ensures { λ r. ⌜ splitAnswer r ≡ mapAnswer pieceCount (splitString (now (v .entry)) closed (now (extra .entry)) (length (now (out .entry))) (length (now (counts .entry))) (length (now (flags .entry)))) ⌝ }
+    ensures { λ _. ⌜ now (out .exit) ≡ leaves (mapAnswer (ofPieces pieceFloats) (splitString (now (v .entry)) closed (now (extra .entry)) (length (now (out .entry))) (length (now (counts .entry))) (length (now (flags .entry))))) (now (out .entry)) ⌝ }
+    ensures { λ _. ⌜ now (counts .exit) ≡ leaves (mapAnswer (ofPieces pieceCounts) (splitString (now (v .entry)) closed (now (extra .entry)) (length (now (out .entry))) (length (now (counts .entry))) (length (now (flags .entry))))) (now (counts .entry)) ⌝ }
+    ensures { λ _. ⌜ now (flags .exit) ≡ leaves (mapAnswer (ofPieces pieceFlags) (splitString (now (v .entry)) closed (now (extra .entry)) (length (now (out .entry))) (length (now (counts .entry))) (length (now (flags .entry))))) (now (flags .entry)) ⌝ }
+{
+    let checked = check::first_of(
+        check::check_stored(v),
+        check::check_list(extra, Checked::Accepted),
+    );
+    if let Checked::Refused(e) = checked {
+        return Split::Refused(e);
+    }
+    let n = v.len() / 3;
+    let mut work = [0.0; 3072];
+    let mut sizes = [0; 1024];
+    let mut closings = [0; 1024];
+    vertex::copy_run(v, 0, n, &mut work, 0);
+    sizes[0] = n;
+    if closed {
+        closings[0] = 1;
+    }
+    let cut = cut_place::cut_at_points(
+        &mut work,
+        &mut sizes,
+        &mut closings,
+        1,
+        extra,
+        extra.len() / 3,
+    );
+    hand_over(&work, &sizes, &closings, cut, out, counts, flags)
+}
