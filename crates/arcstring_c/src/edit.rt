@@ -2,7 +2,7 @@
 ghost use mathlib.Core.Path.{_≡_};
 ghost use lib.ListN.{length};
 ghost use Rattle.arcstring.specs.Answer.{leaves, mapAnswer, flagNumber};
-ghost use Rattle.arcstring.specs.Walk.{writtenAnswer, writtenFloats};
+ghost use Rattle.arcstring.specs.Walk.{writtenFloats};
 ghost use Rattle.arcstring_simplify.specs.Simplify.{simplify};
 ghost use Rattle.arcstring_simplify.specs.Relation.{equals, overlaps};
 ghost use Rattle.arcstring_split.specs.Insert.{insertVertices};
@@ -10,21 +10,7 @@ ghost use Rattle.arcstring_split.specs.SplitLeg.{splitLeg, splitAnswer, ofPiece
 ghost use Rattle.arcstring_split.specs.Split.{splitString, pieceFloats, pieceCounts, pieceFlags};
 ghost use Rattle.arcstring_c.specs.Numbers.{answerNumber, leftIn, flag, legOfSix, pieceNumber, piecesWritten};
 use arcstring::check;
-use arcstring::walk::Written;
 use arcstring_split::split::Split;
-
-// How many vertices were written, put into its place, or the refusal's number.
-fn written(w: Written, count: &mut usize) -> u32
-    ensures { λ r. ⌜ (r ≡ answerNumber (writtenAnswer w)) × (now (count .exit) ≡ leftIn (λ n. n) (writtenAnswer w) (now (count .entry))) ⌝ }
-{
-    match w {
-        Written::Refused(e) => check::number(e),
-        Written::Vertices(n) => {
-            *count = n;
-            0
-        }
-    }
-}
 
 // How many pieces were written, 0 for uncut, put into its place, or the refusal's number.
 fn cut(s: Split, pieces: &mut usize) -> u32
@@ -54,7 +40,7 @@ pub extern "C" fn arcstring_simplify(
     ensures { λ _. ⌜ now (out .exit) ≡ leaves (writtenFloats (simplify (now (v .entry)) (flag closed) (length (now (out .entry))))) (now (out .entry)) ⌝ }
     ensures { λ _. ⌜ now (count .exit) ≡ leftIn length (simplify (now (v .entry)) (flag closed) (length (now (out .entry)))) (now (count .entry)) ⌝ }
 {
-    written(
+    crate::written(
         arcstring_simplify::simplify::simplify(v, crate::is_closed(closed), out),
         count,
     )
@@ -72,7 +58,7 @@ pub extern "C" fn arcstring_insert_vertices(
     ensures { λ _. ⌜ now (out .exit) ≡ leaves (writtenFloats (insertVertices (now (v .entry)) (flag closed) (now (points .entry)) (length (now (out .entry))))) (now (out .entry)) ⌝ }
     ensures { λ _. ⌜ now (count .exit) ≡ leftIn length (insertVertices (now (v .entry)) (flag closed) (now (points .entry)) (length (now (out .entry)))) (now (count .entry)) ⌝ }
 {
-    written(
+    crate::written(
         arcstring_split::insert::insert_vertices(v, crate::is_closed(closed), points, out),
         count,
     )

@@ -9,7 +9,7 @@ ghost use Rattle.arcstring.specs.Answer.{leaves, pick, flagNumber};
 ghost use Rattle.arcstring.specs.Points.{point};
 ghost use Rattle.arcstring.specs.Point.{equalPoints, coplanarPoints, builtPoint, decidedAnswer};
 ghost use Rattle.arcstring.specs.Build.{build, buildFlagged, builtFloats};
-ghost use Rattle.arcstring.specs.Walk.{walkBack, restart, writtenFloats};
+ghost use Rattle.arcstring.specs.Walk.{walkBack, restart, writtenAnswer, writtenFloats};
 ghost use Rattle.arcstring_crossing.specs.Crossing.{leg, legOf, arcsCrossing};
 ghost use Rattle.arcstring_crossing.specs.Listing.{counted, crossings, legCrossings, selfCrossings, crossesSelf, sameSide, listedAnswer, listedFloats, listedBytes};
 ghost use Rattle.arcstring_c.specs.Numbers.{answerNumber, leftIn, flag, threeFloats, legOfSix, classNumber, keptByte, pairPoint, vertexCount, closedByte, fourCounts, keptCount, listingCounts, listedKept, listedCounts, runLength, runStart};
@@ -173,6 +173,19 @@ pub extern "C" fn arcstring_build_flagged(
     }
 }
 
+// How many vertices were written, put into its place, or the refusal's number.
+pub(crate) fn written(w: Written, count: &mut usize) -> u32
+    ensures { λ r. ⌜ (r ≡ answerNumber (writtenAnswer w)) × (now (count .exit) ≡ leftIn (λ n. n) (writtenAnswer w) (now (count .entry))) ⌝ }
+{
+    match w {
+        Written::Refused(e) => check::number(e),
+        Written::Vertices(n) => {
+            *count = n;
+            0
+        }
+    }
+}
+
 #[no_mangle]
 pub extern "C" fn arcstring_walk_back(v: &[f64], out: &mut [f64], count: &mut usize) -> u32
     ensures { λ r. ⌜ r ≡ answerNumber (walkBack (now (v .entry)) (length (now (out .entry)))) ⌝ }
@@ -180,13 +193,7 @@ pub extern "C" fn arcstring_walk_back(v: &[f64], out: &mut [f64], count: &mut us
     ensures { λ _. ⌜ now (count .exit) ≡ leftIn length (walkBack (now (v .entry)) (length (now (out .entry)))) (now (count .entry)) ⌝ }
 {
     let r = arcstring::walk::walk_back(v, out);
-    match r {
-        Written::Refused(e) => check::number(e),
-        Written::Vertices(n) => {
-            *count = n;
-            0
-        }
-    }
+    written(r, count)
 }
 
 #[no_mangle]
@@ -202,13 +209,7 @@ pub extern "C" fn arcstring_restart(
     ensures { λ _. ⌜ now (count .exit) ≡ leftIn length (restart (now (v .entry)) (flag closed) at (length (now (out .entry)))) (now (count .entry)) ⌝ }
 {
     let r = arcstring::walk::restart(v, is_closed(closed), at, out);
-    match r {
-        Written::Refused(e) => check::number(e),
-        Written::Vertices(n) => {
-            *count = n;
-            0
-        }
-    }
+    written(r, count)
 }
 
 #[no_mangle]

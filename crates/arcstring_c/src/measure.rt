@@ -5,8 +5,6 @@ ghost use Rattle.arcstring.specs.Answer.{leaves};
 ghost use Rattle.arcstring.specs.Walk.{writtenFloats};
 ghost use Rattle.arcstring_relation.specs.Measure.{turnOrientations, midpoints};
 ghost use Rattle.arcstring_c.specs.Numbers.{answerNumber, leftIn, flag};
-use arcstring::check;
-use arcstring::walk::Written;
 
 #[no_mangle]
 pub extern "C" fn arcstring_turn_orientations(
@@ -20,13 +18,7 @@ pub extern "C" fn arcstring_turn_orientations(
     ensures { λ _. ⌜ now (count .exit) ≡ leftIn length (turnOrientations (now (v .entry)) (flag closed) (length (now (out .entry)))) (now (count .entry)) ⌝ }
 {
     let r = arcstring_relation::measure::xyzs_turn_orientations(v, crate::is_closed(closed), out);
-    match r {
-        Written::Refused(e) => check::number(e),
-        Written::Vertices(n) => {
-            *count = n;
-            0
-        }
-    }
+    crate::written(r, count)
 }
 
 #[no_mangle]
@@ -41,11 +33,5 @@ pub extern "C" fn arcstring_midpoints(
     ensures { λ _. ⌜ now (count .exit) ≡ leftIn length (midpoints (now (v .entry)) (flag closed) (length (now (out .entry)))) (now (count .entry)) ⌝ }
 {
     let r = arcstring_relation::measure::midpoints(v, crate::is_closed(closed), out);
-    match r {
-        Written::Refused(e) => check::number(e),
-        Written::Vertices(n) => {
-            *count = n;
-            0
-        }
-    }
+    crate::written(r, count)
 }
