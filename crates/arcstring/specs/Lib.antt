@@ -1,3 +1,4 @@
+-- The definitions of lists and strings, refusals, building and walking. `Splice` and `Work` serve inner contracts alone.
 pub mod Answer
 pub mod Points
 pub mod Splice

@@ -1,5 +1,5 @@
 -- The answers of the string layer as C programs get them: a number that is 0 or the refusal's, and results in the places that were lent for them. Definitions only.
-use mathlib.Core.Bool.{Bool, true, false, not}
+use mathlib.Core.Bool.{Bool, not}
 use mathlib.Core.List.{List, [], _∷_}
 use mathlib.Core.Option.{Option, none, some}
 use Prim.Native.Nat.{ℕ, _*_}

@@ -1,3 +1,4 @@
+-- The definitions of simplifying, `equals` and `overlaps`. `Kept` serves inner contracts alone.
 pub mod Simplify
 pub mod Relation
 pub mod Kept
