@@ -141,10 +141,19 @@ pub fn xyz_cross(a: SphericalPoint, b: SphericalPoint) -> SphericalPoint
     }
 }
 
+// The length of the vector with these coordinates. It takes three floats, which go to it in registers: it is too long to become part of
+// its callers, and a point would go through memory, where each call waits for the one before.
+fn length_of(x: f64, y: f64, z: f64) -> f64
+    ensures { λ r. ⌜ r ≡ xyzLength (record { x = x; y = y; z = z }) ⌝ }
+{
+    let xyz = SphericalPoint { x, y, z };
+    sqrt::sqrt(xyz_sum(xyz_mul_xyz(xyz, xyz)))
+}
+
 pub fn xyz_length(xyz: SphericalPoint) -> f64
     ensures { λ r. ⌜ r ≡ xyzLength xyz ⌝ }
 {
-    sqrt::sqrt(xyz_sum(xyz_mul_xyz(xyz, xyz)))
+    length_of(xyz.x, xyz.y, xyz.z)
 }
 
 // Divided by its length, whatever that is: a zero vector becomes NaNs.
@@ -158,7 +167,7 @@ pub fn normalize(xyz: SphericalPoint) -> SphericalPoint
 pub fn normalize_unless_short(xyz: SphericalPoint) -> SphericalPoint
     ensures { λ r. ⌜ r ≡ normalizedUnlessShort xyz ⌝ }
 {
-    let length = xyz_length(xyz);
+    let length = length_of(xyz.x, xyz.y, xyz.z);
     if length < SphericalPoint::EQUALITY_TOLERANCE {
         xyz
     } else {
@@ -199,7 +208,7 @@ pub fn xyzs_coplanar(a: SphericalPoint, b: SphericalPoint, c: SphericalPoint) ->
         return true;
     }
     let normal = xyz_cross(a, b);
-    let normal_length = xyz_length(normal);
+    let normal_length = length_of(normal.x, normal.y, normal.z);
     if normal_length < SphericalPoint::COPLANAR_TOLERANCE {
         return false;
     }

@@ -9,8 +9,8 @@ use borrow.Author.Needs.{needs}
 use Rattle.sphericalpoint.proofs.normalize_unless_short.Statement.{statement}
 use Rattle.sphericalpoint.proofs.normalize_unless_short.Tie as tie
 
-xyz-length-requires : tie.Need-xyz-length-requires
-xyz-length-requires c κs = search needs
+length-of-requires : tie.Need-length-of-requires
+length-of-requires c κs = search needs
 
 xyz-div-f64-requires : tie.Need-xyz-div-f64-requires
 xyz-div-f64-requires c κs = search needs
@@ -23,4 +23,4 @@ returns-2 c = cc (long-divided (c .before .before .before .args .xyz) (cc equali
 
 pub normalize-unless-short-spec : {M : Type 1} → statement M
 normalize-unless-short-spec =
-    tie.close (tie.spec xyz-length-requires xyz-div-f64-requires returns returns-2)
+    tie.close (tie.spec length-of-requires xyz-div-f64-requires returns returns-2)

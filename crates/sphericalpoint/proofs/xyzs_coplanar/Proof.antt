@@ -17,8 +17,8 @@ returns c = ends-equal _ _ _ (cc)
 xyz-cross-requires : tie.Need-xyz-cross-requires
 xyz-cross-requires c κs = search needs
 
-xyz-length-requires : tie.Need-xyz-length-requires
-xyz-length-requires c κs = search needs
+length-of-requires : tie.Need-length-of-requires
+length-of-requires c κs = search needs
 
 returns-2 : tie.Need-returns-2
 returns-2 c = no-plane _ _ _ (cc) (cc coplanar-bits)
@@ -39,7 +39,7 @@ xyzs-coplanar-spec =
     xyz-eq-requires-2
     returns
     xyz-cross-requires
-    xyz-length-requires
+    length-of-requires
     returns-2
     between-in-plane-requires
     returns-3)

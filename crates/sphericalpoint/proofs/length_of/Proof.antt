@@ -1,8 +1,8 @@
--- `sphericalpoint::xyz_length` meets its contract by what its calls ensure. Assumes nothing.
+-- `sphericalpoint::length_of` meets its contract by what its calls ensure. Assumes nothing.
 use Rattle.sphericalpoint.specs.Vector.{xyzLength}
 use borrow.Author.Needs.{needs}
-use Rattle.sphericalpoint.proofs.xyz_length.Statement.{statement}
-use Rattle.sphericalpoint.proofs.xyz_length.Tie as tie
+use Rattle.sphericalpoint.proofs.length_of.Statement.{statement}
+use Rattle.sphericalpoint.proofs.length_of.Tie as tie
 
 xyz-mul-xyz-requires : tie.Need-xyz-mul-xyz-requires
 xyz-mul-xyz-requires c κs = search needs
@@ -17,5 +17,5 @@ returns : tie.Need-returns
 unfolding xyzLength
 returns c = cc
 
-pub xyz-length-spec : {M : Type 1} → statement M
-xyz-length-spec = tie.close (tie.spec xyz-mul-xyz-requires xyz-sum-requires sqrt-requires returns)
+pub length-of-spec : {M : Type 1} → statement M
+length-of-spec = tie.close (tie.spec xyz-mul-xyz-requires xyz-sum-requires sqrt-requires returns)
