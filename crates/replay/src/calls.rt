@@ -5,16 +5,16 @@ use crate::verdicts;
 use crate::vertices;
 
 // What every place holds before a call, so that what is not written shows.
-pub const FLOAT: f64 = -7.25;
+pub(crate) const FLOAT: f64 = -7.25;
 
-pub const BYTE: u8 = 0xA5;
+pub(crate) const BYTE: u8 = 0xA5;
 
-pub const NUMBER: usize = 0x5A5A_5A5A;
+pub(crate) const NUMBER: usize = 0x5A5A_5A5A;
 
-pub const COUNT: u64 = 0x5A5A_5A5A;
+pub(crate) const COUNT: u64 = 0x5A5A_5A5A;
 
 // A float of a list; a NaN past its end.
-pub fn at(list: &[f64], i: usize) -> f64 {
+pub(crate) fn at(list: &[f64], i: usize) -> f64 {
     if i < list.len() {
         return list[i];
     }
@@ -22,7 +22,7 @@ pub fn at(list: &[f64], i: usize) -> f64 {
 }
 
 // The first six floats of a list: a leg.
-pub fn six(list: &[f64]) -> [f64; 6] {
+pub(crate) fn six(list: &[f64]) -> [f64; 6] {
     [
         at(list, 0),
         at(list, 1),
@@ -40,7 +40,7 @@ pub fn six(list: &[f64]) -> [f64; 6] {
 //     13 crosses_self  14 same_side      15 turn_orientations    16 midpoints         17 along         18 simplify
 //     19 insert_vertices                 20 split_leg            21 split             22 eq            23 equals
 //     24 crosses       25 overlaps       26 within               27 contains
-pub fn answer(q: Request, a: &[f64], a_near: &[f64], b: &[f64], b_near: &[f64]) {
+pub(crate) fn answer(q: Request, a: &[f64], a_near: &[f64], b: &[f64], b_near: &[f64]) {
     let call = q.call;
     match call {
         2 => vertices::point(a),

@@ -8,7 +8,7 @@ use crate::calls::six;
 use crate::print;
 use crate::read::Request;
 
-pub fn pair(a: &[f64], b: &[f64]) {
+pub(crate) fn pair(a: &[f64], b: &[f64]) {
     let first = six(a);
     let second = six(b);
     let mut class = BYTE;
@@ -21,7 +21,7 @@ pub fn pair(a: &[f64], b: &[f64]) {
     print::print_byte(kept);
 }
 
-pub fn count(q: Request, a: &[f64], b: &[f64]) {
+pub(crate) fn count(q: Request, a: &[f64], b: &[f64]) {
     let mut counts = [COUNT; 4];
     let n = arcstring_c::arcstring_count(a, q.first_flag, b, q.second_flag, &mut counts);
     print::print_returned(n);
@@ -86,7 +86,7 @@ fn list(q: Request, a: &[f64], b: &[f64], points: &mut [f64], marks: &mut [u8]) 
 }
 
 // The same, with the points and the marks.
-pub fn listing(q: Request, a: &[f64], b: &[f64]) {
+pub(crate) fn listing(q: Request, a: &[f64], b: &[f64]) {
     let mut floats = [FLOAT; 256];
     let mut bytes = [BYTE; 256];
     let float_room = q.floats as usize;

@@ -22,22 +22,22 @@ fn write_text(text: &[u8; 17]) {
     io::write_all(1, text);
 }
 
-pub fn print_word(word: u64) {
+pub(crate) fn print_word(word: u64) {
     let mut text = [b' '; 17];
     spell(word, &mut text);
     write_text(&text);
 }
 
 // What a call returned: 0, or the number of a refusal.
-pub fn print_returned(n: u32) {
+pub(crate) fn print_returned(n: u32) {
     print_word(n as u64);
 }
 
-pub fn print_byte(byte: u8) {
+pub(crate) fn print_byte(byte: u8) {
     print_word(byte as u64);
 }
 
-pub fn print_number(n: usize) {
+pub(crate) fn print_number(n: usize) {
     print_word(n as u64);
 }
 
@@ -50,7 +50,7 @@ fn print_float(x: f64) {
     print_word(f64::to_bits(x));
 }
 
-pub fn print_floats(list: &[f64]) {
+pub(crate) fn print_floats(list: &[f64]) {
     let mut i = 0;
     while i < list.len() {
         print_float(list[i]);
@@ -58,13 +58,13 @@ pub fn print_floats(list: &[f64]) {
     }
 }
 
-pub fn print_point(point: &[f64; 3]) {
+pub(crate) fn print_point(point: &[f64; 3]) {
     print_float(point[0]);
     print_float(point[1]);
     print_float(point[2]);
 }
 
-pub fn print_bytes(list: &[u8]) {
+pub(crate) fn print_bytes(list: &[u8]) {
     let mut i = 0;
     while i < list.len() {
         print_byte(list[i]);
@@ -72,7 +72,7 @@ pub fn print_bytes(list: &[u8]) {
     }
 }
 
-pub fn print_numbers(list: &[usize]) {
+pub(crate) fn print_numbers(list: &[usize]) {
     let mut i = 0;
     while i < list.len() {
         print_number(list[i]);
@@ -80,7 +80,7 @@ pub fn print_numbers(list: &[usize]) {
     }
 }
 
-pub fn print_counts(counts: &[u64; 4]) {
+pub(crate) fn print_counts(counts: &[u64; 4]) {
     print_word(counts[0]);
     print_word(counts[1]);
     print_word(counts[2]);

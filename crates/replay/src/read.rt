@@ -18,27 +18,27 @@ enum Small {
 }
 
 // The words before the lists: the call, two flags, two positions, and the rooms of the floats, bytes and numbers lent.
-pub struct Request {
-    pub call: u8,
-    pub first_flag: u8,
-    pub second_flag: u8,
-    pub first: usize,
-    pub second: usize,
-    pub floats: u8,
-    pub bytes: u8,
-    pub numbers: u8,
+pub(crate) struct Request {
+    pub(crate) call: u8,
+    pub(crate) first_flag: u8,
+    pub(crate) second_flag: u8,
+    pub(crate) first: usize,
+    pub(crate) second: usize,
+    pub(crate) floats: u8,
+    pub(crate) bytes: u8,
+    pub(crate) numbers: u8,
 }
 
 // A request, unless its words are not there whole or its call is unknown.
-pub enum Asked {
+pub(crate) enum Asked {
     Request(Request),
     None,
 }
 
 // Whether a list was there whole, and how many floats it has.
-pub struct Listed {
-    pub whole: bool,
-    pub length: usize,
+pub(crate) struct Listed {
+    pub(crate) whole: bool,
+    pub(crate) length: usize,
 }
 
 fn wide(x: u8) -> u64
@@ -83,7 +83,7 @@ fn read_small() -> Small {
     Small::Value(n as u8)
 }
 
-pub fn read_request() -> Asked {
+pub(crate) fn read_request() -> Asked {
     let Small::Value(call) = read_small() else {
         return Asked::None;
     };
@@ -159,7 +159,7 @@ fn repeat(list: &mut [f64], period: usize) {
 }
 
 // A list read: its length, its period, and as many floats as the period, which the rest of it repeats.
-pub fn read_list(list: &mut [f64]) -> Listed
+pub(crate) fn read_list(list: &mut [f64]) -> Listed
     ensures { λ r. ⌜ (r .length ≤ length (now (list .exit))) × (r .length ≡ length (take (r .length) (now (list .exit)))) ⌝ }
 {
     let none = Listed {

@@ -77,7 +77,7 @@ fn along(q: Request, a: &[f64], b: &[f64], b_near: &[f64]) {
 }
 
 // The calls on points, and on points and a string.
-pub fn on_string(q: Request, a: &[f64], b: &[f64], b_near: &[f64]) {
+pub(crate) fn on_string(q: Request, a: &[f64], b: &[f64], b_near: &[f64]) {
     let call = q.call;
     match call {
         0 => xyz_eq(a),
@@ -157,7 +157,7 @@ fn contains(q: Request, a: &[f64], a_near: &[f64], b: &[f64]) {
 }
 
 // The calls on two strings: 22 to 27. Each gives its verdict.
-pub fn relation(q: Request, a: &[f64], a_near: &[f64], b: &[f64], b_near: &[f64]) {
+pub(crate) fn relation(q: Request, a: &[f64], a_near: &[f64], b: &[f64], b_near: &[f64]) {
     let call = q.call;
     match call {
         22 => eq(q, a, a_near, b, b_near),

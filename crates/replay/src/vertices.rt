@@ -14,7 +14,7 @@ fn print_written(n: u32, out: &[f64], count: usize) {
     print::print_number(count);
 }
 
-pub fn point(a: &[f64]) {
+pub(crate) fn point(a: &[f64]) {
     let mut out = [FLOAT; 3];
     let n = arcstring_c::arcstring_point(at(a, 0), at(a, 1), at(a, 2), &mut out);
     print::print_returned(n);
@@ -22,7 +22,7 @@ pub fn point(a: &[f64]) {
 }
 
 // A run returns nothing: 0 is printed for it.
-pub fn run(q: Request, a: &[f64]) {
+pub(crate) fn run(q: Request, a: &[f64]) {
     let mut start = NUMBER;
     let mut len = NUMBER;
     arcstring_c::arcstring_run(a, q.first, q.second, &mut start, &mut len);
@@ -107,7 +107,7 @@ fn write(q: Request, a: &[f64], b: &[f64], out: &mut [f64]) {
 }
 
 // The same, with the floats.
-pub fn written(q: Request, a: &[f64], b: &[f64]) {
+pub(crate) fn written(q: Request, a: &[f64], b: &[f64]) {
     let mut floats = [FLOAT; 256];
     let room = q.floats as usize;
     write(q, a, b, &mut floats[..room]);
@@ -131,7 +131,7 @@ fn split_into(
 }
 
 // A string cut: lent floats, bytes and numbers.
-pub fn split(q: Request, a: &[f64], b: &[f64]) {
+pub(crate) fn split(q: Request, a: &[f64], b: &[f64]) {
     let mut floats = [FLOAT; 256];
     let mut bytes = [BYTE; 256];
     let mut numbers = [NUMBER; 256];
