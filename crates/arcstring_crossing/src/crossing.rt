@@ -167,18 +167,18 @@ fn at_end(
 
 // A grazing pair's point is kept unless it is an end.
 fn kept_point(
-    p: SphericalPoint,
+    point: SphericalPoint,
     a0: SphericalPoint,
     a1: SphericalPoint,
     b0: SphericalPoint,
     b1: SphericalPoint,
 ) -> Outcome
-    ensures { λ r. ⌜ r ≡ keptPoint p (leg a0 a1) (leg b0 b1) ⌝ }
+    ensures { λ r. ⌜ r ≡ keptPoint point (leg a0 a1) (leg b0 b1) ⌝ }
 {
-    if at_end(p, a0, a1, b0, b1) {
+    if at_end(point, a0, a1, b0, b1) {
         Outcome::Dropped
     } else {
-        Outcome::Kept(p)
+        Outcome::Kept(point)
     }
 }
 

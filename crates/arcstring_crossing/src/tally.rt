@@ -40,14 +40,14 @@ pub(crate) fn none() -> Tally
     }
 }
 
-pub fn counts_of(t: Tally) -> Counts
-    ensures { λ r. ⌜ r ≡ tallyCounts t ⌝ }
+pub fn counts_of(tally: Tally) -> Counts
+    ensures { λ r. ⌜ r ≡ tallyCounts tally ⌝ }
 {
     Counts {
-        clean: t.clean,
-        end: t.end,
-        grazing: t.grazing,
-        apart: t.apart,
+        clean: tally.clean,
+        end: tally.end,
+        grazing: tally.grazing,
+        apart: tally.apart,
     }
 }
 

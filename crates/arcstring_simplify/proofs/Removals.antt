@@ -1,4 +1,4 @@
--- Removal of vertices by their positions: one, several from the last to the first, and how many are left. Assumes nothing.
+-- Removal of vertices by their positions: one, those that a walk passes over, several from the last to the first, and how many are left. Assumes nothing.
 use mathlib.Core.Path.{_≡_, refl, sym, ap, _∙_}
 use mathlib.Core.Bool.{Bool, true, false}
 use mathlib.Core.List.{List, [], _∷_, _++_, append-assoc}
@@ -29,6 +29,25 @@ removed-between xs q ys k h =
     let d : drop (k + 1) (xs ++ q ∷ ys) ≡ ys = sym (drop-drop 1 k (xs ++ q ∷ ys)) ∙ ap (drop 1) (drop-at xs (q ∷ ys) k h) in
     removed-at k (xs ++ q ∷ ys) (omega (arith, length-append xs (q ∷ ys))) ∙ ap answered (rw (t, d))
 
+-- ---- the positions of a run that are judged unnecessary, removed: what the walk over the run keeps
+
+kept-next : (b : Bool) (us : List ℕ) (k : ℕ) (xs : List SphericalPoint) (q : SphericalPoint) (qs ks : List SphericalPoint) → length xs ≡ k
+    → removeAll us ((xs ++ (q ∷ [])) ++ qs) ≡ answered ((xs ++ (q ∷ [])) ++ ks) → removeAll (pick b (k ∷ us) us) (xs ++ q ∷ qs) ≡ answered (xs ++ pick b ks (q ∷ ks))
+unfolding removeAll
+kept-next true us k xs q qs ks h rest =
+    ap (λ (a : Answer (List SphericalPoint)). andThen a (removeAt k)) (ap (removeAll us) (sym (append-assoc xs (q ∷ []) qs)) ∙ rest ∙ ap answered (append-assoc xs (q ∷ []) ks))
+    ∙ removed-between xs q ks k h
+kept-next false us k xs q qs ks h rest = ap (removeAll us) (sym (append-assoc xs (q ∷ []) qs)) ∙ rest ∙ ap answered (append-assoc xs (q ∷ []) ks)
+
+-- the list ps judges; the run qs stands at its positions from k on, in whatever list
+pub kept-of-run : (ps : List SphericalPoint) (k : ℕ) (xs qs : List SphericalPoint) → length xs ≡ k
+    → removeAll (unnecessaryFrom ps k (length qs)) (xs ++ qs) ≡ answered (xs ++ keptFrom ps k qs)
+unfolding unnecessaryFrom keptFrom removeAll
+kept-of-run ps k xs [] h = refl
+kept-of-run ps k xs (q ∷ qs) h =
+    kept-next (unnecessary ps k) (unnecessaryFrom ps (k + 1) (length qs)) k xs q qs (keptFrom ps (k + 1) qs) h
+    (kept-of-run ps (k + 1) (xs ++ (q ∷ [])) qs (length-append xs (q ∷ []) ∙ ap (λ (n : ℕ). n + 1) h))
+
 -- ---- several, from the last to the first
 
 then-answered : (a : Answer (List SphericalPoint)) → a ≡ andThen a (removeAll [])
@@ -49,25 +68,6 @@ removed-in-turn (u ∷ us) ws ps = ap (λ (a : Answer (List SphericalPoint)). an
 pub removed-one : (k : ℕ) (ps : List SphericalPoint) → removeAll (k ∷ []) ps ≡ removeAt k ps
 unfolding removeAll
 removed-one k ps = refl
-
--- ---- the positions of a run that are judged unnecessary, removed: what the walk over the run keeps
-
-kept-next : (b : Bool) (us : List ℕ) (k : ℕ) (xs : List SphericalPoint) (q : SphericalPoint) (qs ks : List SphericalPoint) → length xs ≡ k
-    → removeAll us ((xs ++ (q ∷ [])) ++ qs) ≡ answered ((xs ++ (q ∷ [])) ++ ks) → removeAll (pick b (k ∷ us) us) (xs ++ q ∷ qs) ≡ answered (xs ++ pick b ks (q ∷ ks))
-unfolding removeAll
-kept-next true us k xs q qs ks h rest =
-    ap (λ (a : Answer (List SphericalPoint)). andThen a (removeAt k)) (ap (removeAll us) (sym (append-assoc xs (q ∷ []) qs)) ∙ rest ∙ ap answered (append-assoc xs (q ∷ []) ks))
-    ∙ removed-between xs q ks k h
-kept-next false us k xs q qs ks h rest = ap (removeAll us) (sym (append-assoc xs (q ∷ []) qs)) ∙ rest ∙ ap answered (append-assoc xs (q ∷ []) ks)
-
--- the list ps judges; the run qs stands at its positions from k on, in whatever list
-pub kept-of-run : (ps : List SphericalPoint) (k : ℕ) (xs qs : List SphericalPoint) → length xs ≡ k
-    → removeAll (unnecessaryFrom ps k (length qs)) (xs ++ qs) ≡ answered (xs ++ keptFrom ps k qs)
-unfolding unnecessaryFrom keptFrom removeAll
-kept-of-run ps k xs [] h = refl
-kept-of-run ps k xs (q ∷ qs) h =
-    kept-next (unnecessary ps k) (unnecessaryFrom ps (k + 1) (length qs)) k xs q qs (keptFrom ps (k + 1) qs) h
-    (kept-of-run ps (k + 1) (xs ++ (q ∷ [])) qs (length-append xs (q ∷ []) ∙ ap (λ (n : ℕ). n + 1) h))
 
 -- ---- how many are left
 

@@ -1,11 +1,12 @@
 -- Near an entry of the near list, or else along a leg. Assumes nothing.
+use native.Mathlib.Omega.{arith}
 use Rattle.arcstring.proofs.Checks.{stored-whole, stored-some}
 use Rattle.arcstring_relation.proofs.AlongLegs.{along-near, along-legs}
 use Rattle.arcstring_relation.proofs.on_string.along_string.Statement.{statement}
 use Rattle.arcstring_relation.proofs.on_string.along_string.Tie as tie
 
 near-some-requires : tie.Need-near-some-requires
-near-some-requires c κs = stored-whole _ (c .before .before .pre .1) .triples
+near-some-requires c κs = let s = c .before .before in omega (arith, stored-whole _ (s .pre .0) .triples, stored-whole _ (s .pre .1) .triples)
 
 returns : tie.Need-returns
 returns c = let s = c .before .before .before .before in

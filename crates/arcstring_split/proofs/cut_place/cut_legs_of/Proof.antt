@@ -1,6 +1,6 @@
 -- `cut_legs_of` walks over the legs of the copy: a leg that the point is not along changes nothing, and any other is a cut. Assumes nothing.
 use mathlib.Core.Path.{_≡_, refl, sym, ap, _∙_}
-use Prim.Native.Nat.{_-_, _≤_}
+use Prim.Native.Nat.{_-_}
 use native.Mathlib.Omega.{arith}
 use lib.ListN.{take}
 use Rattle.arcstring.specs.Points.{points}
@@ -15,7 +15,7 @@ use Rattle.arcstring_split.proofs.cut_place.cut_legs_of.Tie as tie
 
 abbrev Inv-loop : tie.InvT-loop
 Inv-loop copy n legs p work₀ counts₀ flags₀ m k at more₀ i₀ work counts flags more i =
-    (i ≤ legs) × (take k counts ≡ take k counts₀) × Walks (cutAtLeg p (points copy) k) (forPositions (cutAtLeg p (points copy) k) 0 legs (firstPieces m work₀ counts₀ flags₀)) m legs i more work counts flags
+    (take k counts ≡ take k counts₀) × Walks (cutAtLeg p (points copy) k) (forPositions (cutAtLeg p (points copy) k) 0 legs (firstPieces m work₀ counts₀ flags₀)) m legs i more work counts flags
 
 abbrev μ-loop : tie.MeasureT-loop
 μ-loop copy n legs p work₀ counts₀ flags₀ m k at more₀ i₀ work counts flags more i = legs - i
@@ -23,7 +23,7 @@ abbrev μ-loop : tie.MeasureT-loop
 loop-holds : tie.Need-loop-holds Inv-loop μ-loop
 loop-holds c = let s = c .before .before .before .before in
     let a = s .args in
-    (omega arith, refl, walk-start (cutAtLeg (a .p) (points (a .copy .now)) (a .k)) (a .m) (a .legs) (a .work .now) (a .counts .now) (a .flags .now) (s .pre .5))
+    (refl, walk-start (cutAtLeg (a .p) (points (a .copy .now)) (a .k)) (a .m) (a .legs) (a .work .now) (a .counts .now) (a .flags .now) (s .pre .5))
 
 leg-at-requires : tie.Need-leg-at-requires Inv-loop μ-loop
 leg-at-requires c κs = omega arith
@@ -42,17 +42,16 @@ loop-again c = let d = c .before .before .before .before in
     let s = d .before .before .before .before .before in
     let a = s .args in
     let w = d .loop in (
-      omega arith,
-      w .inv .1,
-      walk-same (cutAtLeg (a .p) (points (a .copy .now)) (a .k)) (a .m) (a .legs) (w .work) (w .counts) (w .flags) _ (w .i) (w .more) (w .inv .2) (omega arith)
+      w .inv .0,
+      walk-same (cutAtLeg (a .p) (points (a .copy .now)) (a .k)) (a .m) (a .legs) (w .work) (w .counts) (w .flags) _ (w .i) (w .more) (w .inv .1) (omega arith)
           (leg-off (a .p) (a .copy .now) (a .n) (a .k) (w .i) _ _ (s .pre .0) (omega arith) (c .before .before .leg-at .ensures) (c .before .along-leg .ensures) _ (not-true _ (c .if1 .taken))),
     )
 
 cut-at-requires : tie.Need-cut-at-requires Inv-loop μ-loop
 cut-at-requires c κs = let d = c .before .before .before .before .before .before .before in
     let s = d .before .before .before .before .before in
-    let fewer = d .loop .inv .2 .no-fewer in
-    (s .pre .0, omega arith, s .pre .2, omega (arith, s .pre .3), s .pre .4 ∙ ap sum (sym (d .loop .inv .1)), d .loop .inv .2 .stands)
+    let fewer = d .loop .inv .1 .no-fewer in
+    (s .pre .0, omega arith, s .pre .2, omega (arith, s .pre .3), s .pre .4 ∙ ap sum (sym (d .loop .inv .0)), d .loop .inv .1 .stands)
 
 enum-known-cut : tie.Need-enum-known-cut Inv-loop μ-loop
 enum-known-cut c = search needs
@@ -76,9 +75,9 @@ returns c = let cut = c .before .before .before .before .before .before .before 
     let s = d .before .before .before .before .before in
     let a = s .args in
     let w = d .loop in (
-      walk-stops (cutAtLeg (a .p) (points (a .copy .now)) (a .k)) (a .m) (a .legs) (w .work) (w .counts) (w .flags) _ (w .i) (w .more) (w .inv .2) (cut .result) _ _ _ (omega arith)
+      walk-stops (cutAtLeg (a .p) (points (a .copy .now)) (a .k)) (a .m) (a .legs) (w .work) (w .counts) (w .flags) _ (w .i) (w .more) (w .inv .1) (cut .result) _ _ _ (omega arith)
           (cut .ensures .0 ∙ leg-cut (a .p) (a .copy .now) (a .n) (a .k) (w .i) _ _ (s .pre .0) (omega arith) (e .before .before .leg-at .ensures) (e .before .along-leg .ensures) _ (not-false _ (e .if1 .left))) _ (c .enum-told .given .1),
-      (cut .ensures .1 .0, cut .ensures .1 .1 ∙ w .inv .1),
+      (cut .ensures .1 .0, cut .ensures .1 .1 ∙ w .inv .0),
     )
 
 add-i-2 : tie.Need-add-i-2 Inv-loop μ-loop
@@ -94,26 +93,25 @@ loop-again-2 c = let cut = c .before .before .before .before .before .before .be
     let s = d .before .before .before .before .before in
     let a = s .args in
     let w = d .loop in (
-      omega arith,
-      cut .ensures .1 .1 ∙ w .inv .1,
-      walk-step (cutAtLeg (a .p) (points (a .copy .now)) (a .k)) (a .m) (a .legs) (w .work) (w .counts) (w .flags) _ (w .i) (w .more) (w .inv .2) (cut .result) _ _ _ (omega arith)
+      cut .ensures .1 .1 ∙ w .inv .0,
+      walk-step (cutAtLeg (a .p) (points (a .copy .now)) (a .k)) (a .m) (a .legs) (w .work) (w .counts) (w .flags) _ (w .i) (w .more) (w .inv .1) (cut .result) _ _ _ (omega arith)
           (cut .ensures .0 ∙ leg-cut (a .p) (a .copy .now) (a .n) (a .k) (w .i) _ _ (s .pre .0) (omega arith) (e .before .before .leg-at .ensures) (e .before .along-leg .ensures) _ (not-false _ (e .if1 .left))) (leg-longer (a .p) (points (a .copy .now)) (a .k) (w .i)) _ (c .before .cut .given .1) (cut .ensures .1 .0),
     )
 
 same-length-4 : tie.Need-same-length-4 Inv-loop μ-loop
-same-length-4 c = c .before .loop .inv .2 .stands .floats ∙ sym (c .before .before .before .before .before .before .pre .5 .floats)
+same-length-4 c = c .before .loop .inv .1 .stands .floats ∙ sym (c .before .before .before .before .before .before .pre .5 .floats)
 
 same-length-5 : tie.Need-same-length-5 Inv-loop μ-loop
-same-length-5 c = c .before .loop .inv .2 .stands .counts-room ∙ sym (c .before .before .before .before .before .before .pre .5 .counts-room)
+same-length-5 c = c .before .loop .inv .1 .stands .counts-room ∙ sym (c .before .before .before .before .before .before .pre .5 .counts-room)
 
 same-length-6 : tie.Need-same-length-6 Inv-loop μ-loop
-same-length-6 c = c .before .loop .inv .2 .stands .flags-room ∙ sym (c .before .before .before .before .before .before .pre .5 .flags-room)
+same-length-6 c = c .before .loop .inv .1 .stands .flags-room ∙ sym (c .before .before .before .before .before .before .pre .5 .flags-room)
 
 returns-2 : tie.Need-returns-2 Inv-loop μ-loop
 returns-2 c = let s = c .before .before .before .before .before .before in
     let a = s .args in
     let w = c .before .loop in
-    (walk-end (cutAtLeg (a .p) (points (a .copy .now)) (a .k)) (a .m) (a .legs) (w .work) (w .counts) (w .flags) _ (w .i) (w .more) (w .inv .2) (omega arith), (w .inv .2 .stands, w .inv .1))
+    (walk-end (cutAtLeg (a .p) (points (a .copy .now)) (a .k)) (a .m) (a .legs) (w .work) (w .counts) (w .flags) _ (w .i) (w .more) (w .inv .1) (omega arith), (w .inv .1 .stands, w .inv .0))
 
 pub cut-legs-of-spec : {M : Type 1} → statement M
 cut-legs-of-spec =
