@@ -14,7 +14,7 @@ use Rattle.arcstring_split.proofs.cut_place.cut_string.Tie as tie
 
 abbrev Inv-loop : tie.InvT-loop
 Inv-loop work₀ counts₀ flags₀ m p copy₀ more₀ at₀ k₀ work counts flags copy more at k =
-    (k ≤ m) × (at ≡ sum (take k counts)) × (length copy ≡ 3072) × Walks (cutPlace p) (forPositions (cutPlace p) 0 m (firstPieces m work₀ counts₀ flags₀)) m m k more work counts flags
+    Walks (cutPlace p) (forPositions (cutPlace p) 0 m (firstPieces m work₀ counts₀ flags₀)) m m k more work counts flags × (k ≤ m) × (at ≡ sum (take k counts)) × (length copy ≡ 3072)
 
 abbrev μ-loop : tie.MeasureT-loop
 μ-loop work₀ counts₀ flags₀ m p copy₀ more₀ at₀ k₀ work counts flags copy more at k = m - k
@@ -22,12 +22,12 @@ abbrev μ-loop : tie.MeasureT-loop
 loop-holds : tie.Need-loop-holds Inv-loop μ-loop
 loop-holds c = let s = c .before .before .before .before in
     let a = s .args in
-    (omega arith, refl, s .pre .1, walk-start (cutPlace (a .p)) (a .m) (a .m) (a .work .now) (a .counts .now) (a .flags .now) (s .pre .0))
+    (walk-start (cutPlace (a .p)) (a .m) (a .m) (a .work .now) (a .counts .now) (a .flags .now) (s .pre .0), omega arith, refl, s .pre .1)
 
 cut-place-requires : tie.Need-cut-place-requires Inv-loop μ-loop
 cut-place-requires c κs = let w = c .before .before .before .before .before .loop in
-    let fewer = w .inv .3 .no-fewer in
-    (omega arith, w .inv .1, w .inv .3 .stands, w .inv .2)
+    let fewer = w .inv .0 .no-fewer in
+    (omega arith, w .inv .2, w .inv .0 .stands, w .inv .3)
 
 enum-known-cut : tie.Need-enum-known-cut Inv-loop μ-loop
 enum-known-cut c = search needs
@@ -45,7 +45,7 @@ same-length-3 : tie.Need-same-length-3 Inv-loop μ-loop
 same-length-3 c = c .before .before .before .before .before .before .before .before .before .before .cut-place .ensures .1 .0 .flags-room ∙ sym (c .before .before .before .before .before .before .before .before .before .before .before .before .before .before .before .before .before .before .before .before .before .pre .0 .flags-room)
 
 same-length-4 : tie.Need-same-length-4 Inv-loop μ-loop
-same-length-4 c = c .before .before .before .before .before .before .before .before .before .before .cut-place .kept .1 .1 .1 .1 .1 .1 .1 .0 ∙ c .before .before .before .before .before .before .before .before .before .before .before .before .before .before .before .before .loop .inv .2 ∙ sym (c .before .before .before .before .before .before .before .before .before .before .before .before .before .before .before .before .before .before .before .before .before .pre .1)
+same-length-4 c = c .before .before .before .before .before .before .before .before .before .before .cut-place .kept .1 .1 .1 .1 .1 .1 .1 .0 ∙ c .before .before .before .before .before .before .before .before .before .before .before .before .before .before .before .before .loop .inv .3 ∙ sym (c .before .before .before .before .before .before .before .before .before .before .before .before .before .before .before .before .before .before .before .before .before .pre .1)
 
 returns : tie.Need-returns Inv-loop μ-loop
 returns c = let cut = c .before .before .before .before .before .before .before .before .before .before .cut-place in
@@ -53,7 +53,7 @@ returns c = let cut = c .before .before .before .before .before .before .before 
     let s = d .before .before .before .before .before in
     let a = s .args in
     let w = d .loop in (
-      walk-stops (cutPlace (a .p)) (a .m) (a .m) (w .work) (w .counts) (w .flags) _ (w .k) (w .more) (w .inv .3) (cut .result) _ _ _ (c .before .before .before .before .before .before .before .before .before .before .before .before .before .before .before .loop-test .taken) (cut .ensures .0) _ (c .enum-told .given .1)
+      walk-stops (cutPlace (a .p)) (a .m) (a .m) (w .work) (w .counts) (w .flags) _ (w .k) (w .more) (w .inv .0) (cut .result) _ _ _ (c .before .before .before .before .before .before .before .before .before .before .before .before .before .before .before .loop-test .taken) (cut .ensures .0) _ (c .enum-told .given .1)
           ∙ string-walk (a .p) (a .work .now) (a .counts .now) (a .flags .now) (a .m) (s .pre .0),
       cut .ensures .1 .0,
     )
@@ -69,7 +69,7 @@ add-at c = let cut = c .before .before .before .before .before .before .before .
     let d = c .before .before .before .before .before .before .before .before .before .before .before .before .before .before .before .before .before .before in
     let a = d .before .before .before .before .before .args in
     let w = d .loop in
-    let next = place-step (a .p) (a .m) (w .work) (w .counts) (w .flags) _ (w .k) (w .more) (w .at) (w .inv .3) (cut .result) _ _ _ (c .before .before .before .before .before .before .before .before .before .before .before .before .before .before .before .before .before .loop-test .taken) (cut .ensures .0) _ (c .before .before .cut .given .1) (cut .ensures .1 .0) (w .inv .1) (cut .ensures .1 .1) in
+    let next = place-step (a .p) (a .m) (w .work) (w .counts) (w .flags) _ (w .k) (w .more) (w .at) (w .inv .0) (cut .result) _ _ _ (c .before .before .before .before .before .before .before .before .before .before .before .before .before .before .before .before .before .loop-test .taken) (cut .ensures .0) _ (c .before .before .cut .given .1) (cut .ensures .1 .0) (w .inv .2) (cut .ensures .1 .1) in
     omega (arith, next .0)
 
 add-k : tie.Need-add-k Inv-loop μ-loop
@@ -83,28 +83,28 @@ loop-again c = let cut = c .before .before .before .before .before .before .befo
     let d = c .before .before .before .before .before .before .before .before .before .before .before .before .before .before .before .before .before .before in
     let a = d .before .before .before .before .before .args in
     let w = d .loop in
-    let next = place-step (a .p) (a .m) (w .work) (w .counts) (w .flags) _ (w .k) (w .more) (w .at) (w .inv .3) (cut .result) _ _ _ (c .before .before .before .before .before .before .before .before .before .before .before .before .before .before .before .before .before .loop-test .taken) (cut .ensures .0) _ (c .before .before .cut .given .1) (cut .ensures .1 .0) (w .inv .1) (cut .ensures .1 .1) in
-    (omega (arith, c .before .before .before .before .before .before .before .before .before .before .before .before .before .before .before .before .before .loop-test .taken), next .1, cut .kept .1 .1 .1 .1 .1 .1 .1 .0 ∙ w .inv .2, next .2)
+    let next = place-step (a .p) (a .m) (w .work) (w .counts) (w .flags) _ (w .k) (w .more) (w .at) (w .inv .0) (cut .result) _ _ _ (c .before .before .before .before .before .before .before .before .before .before .before .before .before .before .before .before .before .loop-test .taken) (cut .ensures .0) _ (c .before .before .cut .given .1) (cut .ensures .1 .0) (w .inv .2) (cut .ensures .1 .1) in
+    (next .2, omega (arith, c .before .before .before .before .before .before .before .before .before .before .before .before .before .before .before .before .before .loop-test .taken), next .1, cut .kept .1 .1 .1 .1 .1 .1 .1 .0 ∙ w .inv .3)
 
 same-length-5 : tie.Need-same-length-5 Inv-loop μ-loop
-same-length-5 c = c .before .loop .inv .3 .stands .floats ∙ sym (c .before .before .before .before .before .before .pre .0 .floats)
+same-length-5 c = c .before .loop .inv .0 .stands .floats ∙ sym (c .before .before .before .before .before .before .pre .0 .floats)
 
 same-length-6 : tie.Need-same-length-6 Inv-loop μ-loop
-same-length-6 c = c .before .loop .inv .3 .stands .counts-room ∙ sym (c .before .before .before .before .before .before .pre .0 .counts-room)
+same-length-6 c = c .before .loop .inv .0 .stands .counts-room ∙ sym (c .before .before .before .before .before .before .pre .0 .counts-room)
 
 same-length-7 : tie.Need-same-length-7 Inv-loop μ-loop
-same-length-7 c = c .before .loop .inv .3 .stands .flags-room ∙ sym (c .before .before .before .before .before .before .pre .0 .flags-room)
+same-length-7 c = c .before .loop .inv .0 .stands .flags-room ∙ sym (c .before .before .before .before .before .before .pre .0 .flags-room)
 
 same-length-8 : tie.Need-same-length-8 Inv-loop μ-loop
-same-length-8 c = c .before .loop .inv .2 ∙ sym (c .before .before .before .before .before .before .pre .1)
+same-length-8 c = c .before .loop .inv .3 ∙ sym (c .before .before .before .before .before .before .pre .1)
 
 returns-2 : tie.Need-returns-2 Inv-loop μ-loop
 returns-2 c = let s = c .before .before .before .before .before .before in
     let a = s .args in
     let w = c .before .loop in (
-      walk-end (cutPlace (a .p)) (a .m) (a .m) (w .work) (w .counts) (w .flags) _ (w .k) (w .more) (w .inv .3) (omega arith)
+      walk-end (cutPlace (a .p)) (a .m) (a .m) (w .work) (w .counts) (w .flags) _ (w .k) (w .more) (w .inv .0) (omega arith)
           ∙ string-walk (a .p) (a .work .now) (a .counts .now) (a .flags .now) (a .m) (s .pre .0),
-      w .inv .3 .stands,
+      w .inv .0 .stands,
     )
 
 pub cut-string-spec : {M : Type 1} → statement M
