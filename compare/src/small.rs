@@ -35,7 +35,7 @@ fn send(tally: &mut Tally, mut r: Request) {
     tally.request(&r, &expected);
 }
 
-/// the pieces of six axis and diagonal points that lie on, between and beyond one another's legs
+/// six axis and diagonal points that lie on, between and beyond one another's legs
 const COURSE: [Xyz; 6] = [[1.0, 0.0, 0.0], [0.0, 1.0, 0.0], [1.0, 1.0, 0.0], [0.0, 0.0, 1.0], [-1.0, -0.0, 0.0], [1.0, 0.5, 0.5]];
 
 const ONE_STRING: [Call; 9] = [
@@ -80,28 +80,32 @@ fn one_string(tally: &mut Tally) {
     }
 }
 
-/// every length of a list in floats, every position, every room up to one more than the answer
+/// a request with room for 0 to 30 floats, and for fewer bytes and numbers beside them
+fn rooms(tally: &mut Tally, mut r: Request) {
+    let (expected, lent) = (expected::result(&r), r.call.lent());
+    for room in 0..=30 {
+        r.room = Places { floats: lent.0 as usize * room, bytes: lent.1 as usize * (room / 3), numbers: lent.2 as usize * (room % 5) };
+        tally.request(&r, &expected);
+    }
+}
+
+/// every length of a list in floats up to 20, with every position and every room
 fn lengths(tally: &mut Tally) {
     let long: Vec<f64> = COURSE.iter().cycle().flatten().copied().take(40).collect();
     for n in 0..=20 {
         let v = &long[..n];
-        for from in 0..=8 {
-            for to in 0..=8 {
-                tally.request(&Request::new(Call::Run, &[v]).at(from, to), &expected::result(&Request::new(Call::Run, &[v]).at(from, to)));
+        for at in 0..81 {
+            send(tally, Request::new(Call::Run, &[v]).at(at / 9, at % 9));
+        }
+        for call in ONE_STRING {
+            rooms(tally, Request::new(call, &[v]).flags(1, 0).at(1, 0));
+        }
+        for m in [0, 3, 4, 6, 9] {
+            for call in [Call::Crossings, Call::InsertVertices, Call::Split] {
+                rooms(tally, Request::new(call, &[v, &[], &long[40 - m..]]).flags(1, 1));
             }
         }
-        for call in ONE_STRING.into_iter().chain([Call::Crossings, Call::InsertVertices, Call::Split, Call::SplitLeg]) {
-            for m in [0, 3, 4, 6, 9] {
-                let first = if call == Call::SplitLeg { &long[..6] } else { v };
-                let mut r = Request::new(call, &[first, &[], &long[40 - m..]]).flags(1, 1).at(1, 0);
-                let expected = expected::result(&r);
-                for room in 0..=30 {
-                    let lent = call.lent();
-                    r.room = Places { floats: lent.0 as usize * room, bytes: lent.1 as usize * (room / 3), numbers: lent.2 as usize * (room % 5) };
-                    tally.request(&r, &expected);
-                }
-            }
-        }
+        rooms(tally, Request::new(Call::SplitLeg, &[&long[..6], &[], &long[40 - n..]]));
     }
 }
 
