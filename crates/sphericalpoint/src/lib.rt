@@ -142,7 +142,7 @@ pub fn xyz_cross(a: SphericalPoint, b: SphericalPoint) -> SphericalPoint
 }
 
 // The length of the vector with these coordinates. It takes three floats, which go to it in registers: it is too long to become part of
-// its callers, and a point would go through memory, where each call waits for the one before.
+// its callers, and with a point, which goes through memory, building and simplifying took twice the time (docs/DECISIONS.md).
 fn length_of(x: f64, y: f64, z: f64) -> f64
     ensures { λ r. ⌜ r ≡ xyzLength (record { x = x; y = y; z = z }) ⌝ }
 {
