@@ -16,7 +16,6 @@ pub type Leg = (Xyz, Xyz);
 
 pub struct Judged {
     pub class: Class,
-    pub point: Option<Xyz>,
     pub kept: bool,
 }
 
@@ -45,7 +44,7 @@ pub fn judge(a: Leg, b: Leg) -> Judged {
     } else {
         Class::Clean
     };
-    Judged { class, point, kept: point.is_some() && !end }
+    Judged { class, kept: point.is_some() && !end }
 }
 
 /// the marks of the kept points and the four counts

@@ -6,7 +6,7 @@ use crate::expected_edit as edit;
 use crate::random::Xyz;
 use crate::request::{Call, Request};
 use crate::table;
-use sphersgeo::arcstring::{ArcString, arc_crossings_with_arcstring, point_is_along_arcstring, points_are_on_same_side, xyzs_turn_orientations};
+use sphersgeo::arcstring::{ArcString, arc_crossings_with_arcstring, arcs_crossing, point_is_along_arcstring, points_are_on_same_side, xyzs_turn_orientations};
 use sphersgeo::geometry::GeometricRelationships;
 use sphersgeo::sphericalpoint as published;
 use sphersgeo::sphericalpoint::MultiSphericalPoint;
@@ -142,10 +142,12 @@ fn run(v: &[f64], from: usize, to: usize) -> Answer {
     Answer { numbers: if whole { vec![3 * from as u64, 3 * (to - from) as u64] } else { vec![0, 0] }, ..Answer::default() }
 }
 
+/// the published point, and whether the published listing of the first leg with the second keeps one; the class is document 01's
 fn pair(a: Leg, b: Leg) -> Answer {
-    let judged = classes::judge(a, b);
-    let shown = judged.class == classes::Class::End || judged.kept;
-    Answer { floats: if shown { judged.point.unwrap().to_vec() } else { vec![] }, bytes: vec![judged.class as u8, judged.kept as u8], ..Answer::default() }
+    let point = arcs_crossing((&a.0, &a.1), (&b.0, &b.1));
+    let second = flat(&[b.0, b.1]);
+    let kept = arc_crossings_with_arcstring((&a.0, &a.1), &stored(&second, &second, false)).is_some();
+    Answer { floats: point.map_or(vec![], |p| p.to_vec()), bytes: vec![classes::judge(a, b).class as u8, kept as u8], ..Answer::default() }
 }
 
 /// the points that the published listing kept, with the marks and counts of the visited pairs

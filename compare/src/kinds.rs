@@ -1,5 +1,5 @@
 //! Which branch of a call an answer took: the summary counts by these, and each is at most 48 bytes.
-use crate::calls::Left;
+use crate::calls::{BLANK, Left, bits};
 use crate::request::{Call, Request};
 
 pub fn kind(r: &Request, left: &Left) -> String {
@@ -16,7 +16,7 @@ fn branch(r: &Request, left: &Left) -> String {
     let vertices = r.lists[0].len() / 3;
     let count = left.numbers.first().map_or(0, |n| *n as usize);
     match r.call {
-        Call::Point => (if left.floats[..] == crate::calls::bits(&r.lists[0]) { ": kept" } else { ": normalised" }).to_string(),
+        Call::Point => (if left.floats[..] == bits(&r.lists[0]) { ": kept" } else { ": normalised" }).to_string(),
         Call::Build => (if left.bytes == [1] { ": closed" } else { ": open" }).to_string(),
         Call::BuildFlagged => format!(": {}", if count < vertices { "last point dropped" } else { "all points" }),
         Call::WalkBack | Call::Count => String::new(),
@@ -38,11 +38,14 @@ fn open_or_closed(closed: bool) -> &'static str {
 }
 
 fn pair(left: &Left) -> &'static str {
-    match (left.bytes[0], left.bytes[1]) {
-        (1, _) => ": clean",
-        (2, _) => ": end",
-        (3, 1) => ": grazing, kept",
-        (3, _) => ": grazing, dropped",
+    let point = left.floats[..] != bits(&[BLANK; 3]);
+    match (left.bytes[0], left.bytes[1], point) {
+        (1, _, _) => ": clean",
+        (2, _, _) => ": end",
+        (3, 1, _) => ": grazing, kept",
+        (3, _, true) if left.floats.iter().all(|x| x << 1 == 0) => ": grazing, zero vector at an end",
+        (3, _, true) => ": grazing, point at an end",
+        (3, _, false) => ": grazing, no point",
         _ => ": apart",
     }
 }

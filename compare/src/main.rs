@@ -6,6 +6,7 @@ mod classes;
 mod edits;
 mod expected;
 mod expected_edit;
+mod found;
 mod inputs;
 mod kinds;
 mod random;
@@ -25,8 +26,9 @@ use tally::Tally;
 
 type Work = fn(&mut Tally, u64);
 
-/// What can be compared, with the usual number of comparisons; the small requests are as many as there are.
-const COMPARISONS: [(&str, u64, Work); 5] = [
+/// What can be compared, with the usual number of comparisons; the found and the small requests are as many as there are.
+const COMPARISONS: [(&str, u64, Work); 6] = [
+    ("found", 1, found::run),
     ("roots", 12_000_000, roots::run),
     ("vectors", 3_000_000, vectors::run),
     ("small", 1, small::run),
@@ -72,11 +74,11 @@ fn requests(file: &str) -> bool {
     tally.different == 0
 }
 
-/// stores a sample of the small and the random requests in a folder
+/// stores a sample of the found, the random and the small requests in a folder
 fn sample(folder: &str) -> bool {
     let mut sample = Sample::default();
     let mut same = true;
-    for (name, n, work) in [("edits", 60_000, edits::run as Work), ("strings", 200_000, strings::run), ("small", 1, small::run)] {
+    for (name, n, work) in [("found", 1, found::run as Work), ("edits", 60_000, edits::run), ("strings", 200_000, strings::run), ("small", 1, small::run)] {
         let mut tally = Tally::new(name, Some(sample));
         work(&mut tally, n);
         same &= tally.different == 0;

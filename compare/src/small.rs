@@ -25,7 +25,7 @@ fn lists_up_to(points: &[Xyz], least: usize, most: usize) -> Vec<Vec<f64>> {
 }
 
 /// with buffers of exactly the answer's length
-fn send(tally: &mut Tally, mut r: Request) {
+pub fn send(tally: &mut Tally, mut r: Request) {
     let expected = expected::result(&r);
     let (fixed, lent) = (r.call.fixed(), r.call.lent());
     if let Ok(a) = &expected {
