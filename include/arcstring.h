@@ -59,8 +59,10 @@ uint32_t arcstring_restart(const double *v, size_t v_len, uint8_t closed, size_t
  * doubles long. Empty, and starting at 0, where the positions are out of order or past the end. Never refuses. */
 void arcstring_run(const double *v, size_t v_len, size_t from, size_t to, size_t *start, size_t *len);
 
-/* The class of a pair of legs: 1 clean, 2 end, 3 grazing, 4 apart. `kept` is 1 where the listings below keep its point.
- * The point is written for a clean, an end and a kept grazing pair, not normalised. Refuses by 4. */
+/* The class of a pair of legs: 1 clean, 2 end, 3 grazing, 4 apart. `kept` is 1 where the listings below keep its point, else 0.
+ * The point, not normalised, is written wherever the published arcs_crossing answers one: always for a clean or an end pair, never
+ * for an apart one, and for a grazing one by the signs of its zeros, also where it is an end of a leg, which the listings do not
+ * keep. Where there is none, `point` keeps what it held. Refuses by 4. */
 uint32_t arcstring_pair(const double a[6], const double b[6], uint8_t *class_, uint8_t *kept, double point[3]);
 
 /* The kept points of one leg with every leg of a string, a mark for each (1 clean, 0 grazing), and how many pairs are

@@ -44,6 +44,12 @@ pub second-passes : (m n : ℕ) → firstOf m n ≡ 0 → n ≡ 0
 second-passes zero n h = h
 second-passes (suc m) n h = absurd (let z : suc m ≡ 0 = h in omega arith)
 
+-- and both pass where something is answered
+pub both-passed : {A : Type 0} (m n : ℕ) (x y : A) → unlessRefused m (unlessRefused n (answered x)) ≡ answered y → (m ≡ 0) × (n ≡ 0) × (x ≡ y)
+both-passed zero zero x y h = (refl, refl, cc)
+both-passed zero (suc n) x y h = absurd (let z : _≡_ {A = ℕ} 0 1 = cc in omega arith)
+both-passed (suc m) n x y h = absurd (let z : _≡_ {A = ℕ} 0 1 = cc in omega arith)
+
 refusal-first : (e : Refusal) (n : ℕ) → refusalNumber e ≡ firstOf (refusalNumber e) n
 refusal-first NotTriples n = refl
 refusal-first TooFewPoints n = refl

@@ -10,11 +10,8 @@ use Rattle.sphericalpoint.specs.declared.SphericalPoint.{SphericalPoint}
 use Rattle.arcstring.specs.Answer.{Answer, refused, answered, pick, flagNumber}
 use Rattle.arcstring.specs.Points.{ArcString, point}
 use Rattle.arcstring.specs.Walk.{runOf}
-use Rattle.arcstring_crossing.specs.declared.crossing.Pair.{Pair}
-use Rattle.arcstring_crossing.specs.declared.crossing.Pair.the-variants.{Clean, End, Grazing, Apart}
-use Rattle.arcstring_crossing.specs.declared.crossing.Outcome.the-variants.{Kept, Dropped}
 use Rattle.arcstring_crossing.specs.declared.listing.Counts.{Counts}
-use Rattle.arcstring_crossing.specs.Crossing.{Leg, leg}
+use Rattle.arcstring_crossing.specs.Crossing.{Leg, leg, Judged}
 use Rattle.arcstring_crossing.specs.Listing.{Listing}
 
 -- 0, or the number of the refusal
@@ -38,29 +35,22 @@ threeFloats p = p .x ∷ p .y ∷ p .z ∷ []
 abbrev pub legOfSix : List Float → Leg
 legOfSix l = leg (point (getD l 0 nan) (getD l 1 nan) (getD l 2 nan)) (point (getD l 3 nan) (getD l 4 nan) (getD l 5 nan))
 
--- ---- a pair: 1 clean, 2 end, 3 grazing, 4 apart
+-- ---- a pair
 
-abbrev pub classNumber : Pair → ℕ
-classNumber (Clean p) = 1
-classNumber (End p) = 2
-classNumber (Grazing o) = 3
-classNumber Apart = 4
+abbrev pub classByte : Judged → ℕ
+classByte j = j .class
 
 -- 1 where the listings keep the pair's point
-abbrev pub keptByte : Pair → ℕ
-keptByte (Clean p) = 1
-keptByte (End p) = 0
-keptByte (Grazing (Kept p)) = 1
-keptByte (Grazing Dropped) = 0
-keptByte Apart = 0
+abbrev pub keptByte : Judged → ℕ
+keptByte j = flagNumber (j .kept)
 
--- the point of a clean, an end or a kept grazing pair; the place keeps what it held for the others
-abbrev pub pairPoint : List Float → Pair → List Float
-pairPoint old (Clean p) = threeFloats p
-pairPoint old (End p) = threeFloats p
-pairPoint old (Grazing (Kept p)) = threeFloats p
-pairPoint old (Grazing Dropped) = old
-pairPoint old Apart = old
+-- the point that the Rust answers; where it answers none the place keeps what it held
+abbrev pub pointOver : List Float → Option SphericalPoint → List Float
+pointOver old none = old
+pointOver old (some p) = threeFloats p
+
+abbrev pub pointPlace : List Float → Judged → List Float
+pointPlace old j = pointOver old (j .point)
 
 -- ---- strings and listings
 

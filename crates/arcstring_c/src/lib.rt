@@ -10,9 +10,9 @@ ghost use Rattle.arcstring.specs.Points.{point};
 ghost use Rattle.arcstring.specs.Point.{equalPoints, coplanarPoints, builtPoint, decidedAnswer};
 ghost use Rattle.arcstring.specs.Build.{build, buildFlagged, builtFloats};
 ghost use Rattle.arcstring.specs.Walk.{walkBack, restart, writtenAnswer, writtenFloats};
-ghost use Rattle.arcstring_crossing.specs.Crossing.{leg, legOf, arcsCrossing};
+ghost use Rattle.arcstring_crossing.specs.Crossing.{leg, legOf, classNumber, pairPoint, pairKept, arcsCrossing};
 ghost use Rattle.arcstring_crossing.specs.Listing.{counted, crossings, legCrossings, selfCrossings, crossesSelf, sameSide, listedAnswer, listedFloats, listedBytes};
-ghost use Rattle.arcstring_c.specs.Numbers.{answerNumber, leftIn, flag, threeFloats, legOfSix, classNumber, keptByte, pairPoint, vertexCount, closedByte, fourCounts, keptCount, listingCounts, listedKept, listedCounts, runLength, runStart};
+ghost use Rattle.arcstring_c.specs.Numbers.{answerNumber, leftIn, flag, threeFloats, legOfSix, classByte, keptByte, pointOver, pointPlace, vertexCount, closedByte, fourCounts, keptCount, listingCounts, listedKept, listedCounts, runLength, runStart};
 
 pub mod edit;
 pub mod measure;
@@ -245,9 +245,9 @@ pub extern "C" fn arcstring_pair(
     point: &mut [f64; 3],
 ) -> u32
     ensures { λ r. ⌜ r ≡ answerNumber (arcsCrossing (legOfSix (now (a .entry))) (legOfSix (now (b .entry)))) ⌝ }
-    ensures { λ _. ⌜ now («class_» .exit) ≡ leftIn classNumber (arcsCrossing (legOfSix (now (a .entry))) (legOfSix (now (b .entry)))) (now («class_» .entry)) ⌝ }
+    ensures { λ _. ⌜ now («class_» .exit) ≡ leftIn classByte (arcsCrossing (legOfSix (now (a .entry))) (legOfSix (now (b .entry)))) (now («class_» .entry)) ⌝ }
     ensures { λ _. ⌜ now (kept .exit) ≡ leftIn keptByte (arcsCrossing (legOfSix (now (a .entry))) (legOfSix (now (b .entry)))) (now (kept .entry)) ⌝ }
-    ensures { λ _. ⌜ now (point .exit) ≡ leftIn (pairPoint (now (point .entry))) (arcsCrossing (legOfSix (now (a .entry))) (legOfSix (now (b .entry)))) (now (point .entry)) ⌝ }
+    ensures { λ _. ⌜ now (point .exit) ≡ leftIn (pointPlace (now (point .entry))) (arcsCrossing (legOfSix (now (a .entry))) (legOfSix (now (b .entry)))) (now (point .entry)) ⌝ }
 {
     let r = arcstring_crossing::crossing::arcs_crossing(leg_of(a), leg_of(b));
     match r {
@@ -273,23 +273,22 @@ fn class_number(p: Pair) -> u8
 }
 
 fn kept_byte(p: Pair) -> u8
-    ensures { λ r. ⌜ r ≡ keptByte p ⌝ }
+    ensures { λ r. ⌜ r ≡ flagNumber (pairKept p) ⌝ }
 {
     match p {
         Pair::Clean(_) => 1,
         Pair::End(_) => 0,
-        Pair::Grazing(o) => {
-            if let Outcome::Kept(_) = o {
-                return 1;
-            }
-            0
-        }
+        Pair::Grazing(o) => match o {
+            Outcome::Kept(_) => 1,
+            Outcome::Dropped(_) => 0,
+            Outcome::None => 0,
+        },
         Pair::Apart => 0,
     }
 }
 
 fn put_pair_point(out: &mut [f64; 3], p: Pair)
-    ensures { λ _. ⌜ now (out .exit) ≡ pairPoint (now (out .entry)) p ⌝ }
+    ensures { λ _. ⌜ now (out .exit) ≡ pointOver (now (out .entry)) (pairPoint p) ⌝ }
 {
     match p {
         Pair::Clean(t) => {
@@ -300,13 +299,17 @@ fn put_pair_point(out: &mut [f64; 3], p: Pair)
             put_three(out, t);
             return;
         }
-        Pair::Grazing(o) => {
-            if let Outcome::Kept(t) = o {
+        Pair::Grazing(o) => match o {
+            Outcome::Kept(t) => {
                 put_three(out, t);
                 return;
             }
-            return;
-        }
+            Outcome::Dropped(end) => {
+                put_three(out, end);
+                return;
+            }
+            Outcome::None => {}
+        },
         Pair::Apart => {}
     }
 }

@@ -1,4 +1,5 @@
--- The legs of an accepted string, and an accepted leg, have coordinates from -1 to 1, so that the laws of `Finite` hold of them. Assumes nothing.
+-- The legs of an accepted string, and an accepted leg, have coordinates from -1 to 1, so that the laws of `Finite` hold of them; and a leg in range is accepted.
+-- Assumes nothing.
 use mathlib.Core.Path.{_≡_, refl, sym, subst}
 use mathlib.Core.Logic.{_⊎_, inl, inr}
 use mathlib.Core.Bool.{Bool, true, false, _&&_}
@@ -36,6 +37,18 @@ accepted-leg-in-range l h =
       from = point-passed (l .from) (first-passes (pointCheck (l .from)) (pointCheck (l .to)) h);
       to = point-passed (l .to) (second-passes (pointCheck (l .from)) (pointCheck (l .to)) h);
     }
+
+true-of : (b : Bool) → T b → b ≡ true
+true-of true h = refl
+true-of false h = absurd h
+
+point-passes : (p : SphericalPoint) → PointInRange p → pointCheck p ≡ 0
+unfolding pointCheck
+point-passes p h = rw (true-of (inRange (p .x)) (h .x), true-of (inRange (p .y)) (h .y), true-of (inRange (p .z)) (h .z))
+
+pub in-range-accepted : (l : Leg) → LegInRange l → legCheck l ≡ 0
+unfolding legCheck
+in-range-accepted l h = rw (point-passes (l .from) (h .from), point-passes (l .to) (h .to))
 
 -- ---- an accepted string
 

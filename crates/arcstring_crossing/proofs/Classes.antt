@@ -8,18 +8,18 @@ use Rattle.sphericalpoint.specs.Vector.{xyzNeg, xyzCross}
 use Rattle.arcstring_crossing.specs.declared.crossing.Pair.{Pair}
 use Rattle.arcstring_crossing.specs.declared.crossing.Pair.the-variants.{Clean, End, Grazing, Apart}
 use Rattle.arcstring_crossing.specs.declared.crossing.Outcome.{Outcome}
-use Rattle.arcstring_crossing.specs.declared.crossing.Outcome.the-variants.{Kept, Dropped}
+use Rattle.arcstring_crossing.specs.declared.crossing.Outcome.the-variants.{Kept, Dropped, None}
 use Rattle.arcstring_crossing.specs.declared.crossing.Plane.{Plane}
 use Rattle.arcstring_crossing.specs.Plane.{planeLeg, planeOf, planeSides}
-use Rattle.arcstring_crossing.specs.Crossing.{Leg, meeting, sideFrom, sideTo, sideValues, pairOf, grazes, isAbove, isBelow, signNegative, signPositive, someSide, everySide, atEnd, keptPoint, grazingOutcome, endOrClean, classAt}
+use Rattle.arcstring_crossing.specs.Crossing.{Leg, meeting, sideFrom, sideTo, sideValues, pairOf, grazes, isAbove, isBelow, signNegative, signPositive, someSide, everySide, atEnd, keptOrDropped, grazingOutcome, endOrClean, classAt}
 
 module _ (p : SphericalPoint) (a b : Leg) where
-  pub end-dropped : atEnd p a b ≡ true → Dropped ≡ keptPoint p a b
-  unfolding keptPoint
+  pub end-dropped : atEnd p a b ≡ true → Dropped p ≡ keptOrDropped p a b
+  unfolding keptOrDropped
   end-dropped h = rw h
 
-  pub other-kept : atEnd p a b ≡ false → Kept p ≡ keptPoint p a b
-  unfolding keptPoint
+  pub other-kept : atEnd p a b ≡ false → Kept p ≡ keptOrDropped p a b
+  unfolding keptOrDropped
   other-kept h = rw h
 
   pub end-class : atEnd p a b ≡ true → End p ≡ endOrClean p a b
@@ -31,16 +31,16 @@ module _ (p : SphericalPoint) (a b : Leg) where
   clean-class h = rw h
 
 module _ (t : SphericalPoint) (a b : Leg) (s : List Float) where
-  pub positive-outcome : (o : Outcome) → everySide signPositive s ≡ true → o ≡ keptPoint t a b → o ≡ grazingOutcome t a b s
+  pub positive-outcome : (o : Outcome) → everySide signPositive s ≡ true → o ≡ keptOrDropped t a b → o ≡ grazingOutcome t a b s
   unfolding grazingOutcome
   positive-outcome o h k = rw h k
 
-  pub negative-outcome : (o : Outcome) (u : SphericalPoint) → everySide signPositive s ≡ false → everySide signNegative s ≡ true → u ≡ xyzNeg t → o ≡ keptPoint u a b
+  pub negative-outcome : (o : Outcome) (u : SphericalPoint) → everySide signPositive s ≡ false → everySide signNegative s ≡ true → u ≡ xyzNeg t → o ≡ keptOrDropped u a b
       → o ≡ grazingOutcome t a b s
   unfolding grazingOutcome
   negative-outcome o u h i e k = rw (h, i, ← e) k
 
-  pub mixed-outcome : everySide signPositive s ≡ false → everySide signNegative s ≡ false → Dropped ≡ grazingOutcome t a b s
+  pub mixed-outcome : everySide signPositive s ≡ false → everySide signNegative s ≡ false → None ≡ grazingOutcome t a b s
   unfolding grazingOutcome
   mixed-outcome h i = rw (h, i)
 

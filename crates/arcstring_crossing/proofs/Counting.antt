@@ -11,7 +11,7 @@ use lib.ListN.{length, drop, length-append, length-map, length-drop}
 use Rattle.sphericalpoint.specs.declared.SphericalPoint.{SphericalPoint}
 use Rattle.arcstring_crossing.specs.declared.crossing.Pair.{Pair}
 use Rattle.arcstring_crossing.specs.declared.crossing.Pair.the-variants.{Clean, End, Grazing, Apart}
-use Rattle.arcstring_crossing.specs.declared.crossing.Outcome.the-variants.{Kept, Dropped}
+use Rattle.arcstring_crossing.specs.declared.crossing.Outcome.the-variants.{Kept, Dropped, None}
 use Rattle.arcstring_crossing.specs.declared.listing.Counts.{Counts}
 use Rattle.arcstring_crossing.specs.Crossing.{Leg, pairOf}
 use Rattle.arcstring_crossing.specs.Listing.{chain, legs, pairsBetween, pairsWithin, oneClean, total, countsOf, keptMarks, cleanPoints}
@@ -106,7 +106,8 @@ clean-points-are-clean-pairs [] = refl
 clean-points-are-clean-pairs (Clean p ∷ ps) = ap (λ (l : List SphericalPoint). p ∷ l) (clean-points-are-clean-pairs ps)
 clean-points-are-clean-pairs (End p ∷ ps) = clean-points-are-clean-pairs ps
 clean-points-are-clean-pairs (Grazing (Kept p) ∷ ps) = clean-points-are-clean-pairs ps
-clean-points-are-clean-pairs (Grazing Dropped ∷ ps) = clean-points-are-clean-pairs ps
+clean-points-are-clean-pairs (Grazing (Dropped p) ∷ ps) = clean-points-are-clean-pairs ps
+clean-points-are-clean-pairs (Grazing None ∷ ps) = clean-points-are-clean-pairs ps
 clean-points-are-clean-pairs (Apart ∷ ps) = clean-points-are-clean-pairs ps
 
 clean-length : (ps : List Pair) → length (filterMap pointOfClean ps) ≡ total oneClean ps

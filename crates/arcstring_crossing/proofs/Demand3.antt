@@ -11,11 +11,11 @@ use lib.Dec.{eqb}
 use lib.Ieee.{Float}
 use Rattle.sphericalpoint.specs.declared.SphericalPoint.{SphericalPoint}
 use Rattle.sphericalpoint.specs.Point.{normalizedUnlessShort}
-use Rattle.arcstring.specs.Answer.{Answer, answered, unlessRefused, pick}
+use Rattle.arcstring.specs.Answer.{answered, unlessRefused, pick}
 use Rattle.arcstring.specs.Points.{points, flat}
 use Rattle.arcstring.specs.Check.{storedCheck, roomCheck}
 use Rattle.arcstring.specs.Walk.{restarted, moved, walkBack, restart}
-use Rattle.arcstring.proofs.Answers.{pass}
+use Rattle.arcstring.proofs.Answers.{pass, both-passed}
 use Rattle.arcstring.proofs.Flat.{points-flat}
 use Rattle.arcstring_crossing.specs.declared.crossing.Pair.{Pair}
 use Rattle.arcstring_crossing.specs.Crossing.{Leg}
@@ -27,15 +27,9 @@ use Rattle.arcstring_crossing.proofs.SamePairs.{SamePairs, counts-same,
 
 -- ---- what is answered where nothing refuses
 
-module _ {A : Type 0} where
-  pub answered-is : (n m : ℕ) (x y : A) → unlessRefused n (unlessRefused m (answered x)) ≡ answered y → x ≡ y
-  answered-is zero zero x y h = cc
-  answered-is zero (suc m) x y h = absurd (let z : _≡_ {A = ℕ} 0 1 = cc in omega arith)
-  answered-is (suc n) m x y h = absurd (let z : _≡_ {A = ℕ} 0 1 = cc in omega arith)
-
 pub in-room-is : (l k : Listing) (p m : ℕ) → inRoom l p m ≡ answered k → l ≡ k
 unfolding inRoom
-in-room-is l k p m = answered-is (roomCheck (3 * length (l .marks)) p) (roomCheck (length (l .marks)) m) l k
+in-room-is l k p m h = both-passed (roomCheck (3 * length (l .marks)) p) (roomCheck (length (l .marks)) m) l k h .2
 
 -- the counting call and the listing give the same counts
 pub listing-counts-agree : (a : List Float) (aClosed : Bool) (b : List Float) (bClosed : Bool) (p m : ℕ) (l : Listing) → crossings a aClosed b bClosed p m ≡ answered l

@@ -1,8 +1,8 @@
--- For two legs with coordinates from -1 to 1 the meeting point and the four side values are finite: no NaN, no infinity. So each side value is exactly one of zero, above
--- zero and below zero, and whether such a pair grazes, has agreeing signs or is apart goes by that alone. Assumes nothing.
-use mathlib.Core.Path.{_≡_, refl, sym, ap, subst}
-use mathlib.Core.Bool.{Bool, true, false, not, _&&_, _||_}
-use mathlib.Core.List.{List, [], _∷_, List·Memᴰ, List·Memᴰ·head, List·Memᴰ·tail, List·Memᴰ·eq-of-singleton}
+-- For two legs with coordinates from -1 to 1 the meeting point and the four side values are finite: no NaN, no infinity. So each side value is exactly one of
+-- zero, above zero and below zero. Assumes nothing.
+use mathlib.Core.Path.{_≡_, refl, sym, subst}
+use mathlib.Core.Bool.{Bool, true, false}
+use mathlib.Core.List.{[], _∷_, List·Memᴰ, List·Memᴰ·head, List·Memᴰ·tail, List·Memᴰ·eq-of-singleton}
 use Prim.Native.Nat.{ℕ, zero, suc, _+_, _*_, _≤_, _<_}
 use native.Mathlib.Nat.{mul-pos}
 use native.Mathlib.Omega.{arith}
@@ -18,13 +18,8 @@ use Rattle.ieee754.proofs.Comparisons.{lt-value, eq-value}
 use Rattle.ieee754.proofs.Bounds.{between-at-most, neg-at-most, mul-at-most, add-at-most, sub-at-most}
 use Rattle.sphericalpoint.specs.declared.SphericalPoint.{SphericalPoint}
 use Rattle.sphericalpoint.specs.Vector.{xyzMul, xyzNeg, xyzSum, xyzDot, xyzCross}
-use Rattle.arcstring.specs.Answer.{pick}
 use Rattle.arcstring.specs.Check.{inRange}
-use Rattle.arcstring_crossing.specs.declared.crossing.Pair.{Pair}
-use Rattle.arcstring_crossing.specs.declared.crossing.Pair.the-variants.{Clean, End, Grazing, Apart}
-use Rattle.arcstring_crossing.specs.declared.crossing.Outcome.{Outcome}
-use Rattle.arcstring_crossing.specs.Crossing.{Leg, normal, meeting, sideFrom, sideTo, sideValues, zeroFloat, grazes, isAbove, isBelow, someSide, everySide, atEnd, grazingOutcome, endOrClean, classAt, pairOf}
-use Rattle.arcstring_crossing.specs.Listing.{oneApart}
+use Rattle.arcstring_crossing.specs.Crossing.{Leg, normal, meeting, sideFrom, sideTo, sideValues, zeroFloat, grazes, isAbove, isBelow}
 
 -- ---- bounds on the size of a vector's coordinates
 
@@ -168,58 +163,3 @@ module _ (a b : Leg) (h : LegInRange a) (k : LegInRange b) where
 
   pub side-trichotomy : (x : Float) → List·Memᴰ x (sideValues a b (meeting a b)) → ExactlyOne (grazes x) (isAbove x) (isBelow x)
   side-trichotomy x m = side-of x 7 (sides-finite x m)
-
--- ---- so a pair that is apart has sides above zero and sides below zero, and none at zero
-
-one-other : (g a b G A B : Bool) → ExactlyOne g a b → T (not (g || G)) → T (not (a && A)) → (T (not G) → T (not A) → T B) → T (b || B)
-one-other true false false G A B onlyFirst p q rest = absurd p
-one-other false true false G A B onlySecond p q rest = rest p q
-one-other false false true G A B onlyThird p q rest = tt
-
-turned-one : {g a b : Bool} → ExactlyOne g a b → ExactlyOne g b a
-turned-one onlyFirst = onlyFirst
-turned-one onlySecond = onlyThird
-turned-one onlyThird = onlySecond
-
-some-other : (f h : Float → Bool) (s : List Float) → ((x : Float) → List·Memᴰ x s → ExactlyOne (grazes x) (f x) (h x)) → T (not (someSide grazes s)) → T (not (everySide f s))
-    → T (someSide h s)
-unfolding someSide everySide
-some-other f h [] one p q = absurd q
-some-other f h (x ∷ s) one p q =
-    one-other (grazes x) (f x) (h x) (someSide grazes s) (everySide f s) (someSide h s) (one x (List·Memᴰ·head refl)) p q (some-other f h s (λ y m. one y (List·Memᴰ·tail m)))
-
-never-apart : (p : SphericalPoint) (a b : Leg) → oneApart (endOrClean p a b) ≡ 0
-unfolding endOrClean
-never-apart p a b = go (atEnd p a b)
-  where
-    go : (e : Bool) → oneApart (pick e (End p) (Clean p)) ≡ 0
-    go true = refl
-    go false = refl
-
-record NoAgreement (z p n : Bool) : Type 0 where
-  none : T (not z)
-  above : T (not p)
-  below : T (not n)
-
-apart-tests : (z p n : Bool) (o : Outcome) (x y : Pair) → oneApart x ≡ 0 → oneApart y ≡ 0 → pick z (Grazing o) (pick p x (pick n y Apart)) ≡ Apart → NoAgreement z p n
-apart-tests true p n o x y i j e = absurd (omega (arith, ap oneApart e))
-apart-tests false true n o x y i j e = absurd (omega (arith, i, ap oneApart e))
-apart-tests false false true o x y i j e = absurd (omega (arith, j, ap oneApart e))
-apart-tests false false false o x y i j e = record { none = tt; above = tt; below = tt }
-
-pub record BothSides (s : List Float) : Type 0 where
-  pub no-zero : T (not (someSide grazes s))
-  pub some-above : T (someSide isAbove s)
-  pub some-below : T (someSide isBelow s)
-
-pub apart-both-sides : (a b : Leg) → LegInRange a → LegInRange b → pairOf a b ≡ Apart → BothSides (sideValues a b (meeting a b))
-unfolding pairOf classAt
-apart-both-sides a b h k e =
-    let t = meeting a b in
-    let s = sideValues a b t in
-    let n = apart-tests (someSide grazes s) (everySide isAbove s) (everySide isBelow s) (grazingOutcome t a b s) (endOrClean t a b) (endOrClean (xyzNeg t) a b) (never-apart t a b) (never-apart (xyzNeg t) a b) e in
-    record {
-      no-zero = n .none;
-      some-above = some-other isBelow isAbove s (λ x m. turned-one (side-trichotomy a b h k x m)) (n .none) (n .below);
-      some-below = some-other isAbove isBelow s (side-trichotomy a b h k) (n .none) (n .above);
-    }

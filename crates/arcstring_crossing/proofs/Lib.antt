@@ -1,4 +1,6 @@
--- The laws of pairs of legs. For others to cite: `Demand3`, the two theorems of `specs/Changes.antt`; `Counting`; `Finite` with `AcceptedLegs`; and what callers' proofs need, `Legs`, `Tallies`. The rest serves these and the functions' proofs.
+-- The laws of pairs of legs. For others to cite: `PairLaws`, the theorems of `specs/PairLaws.antt`; `Demand3`, the two of `specs/Changes.antt`; `Counting`;
+-- `Finite` with `AcceptedLegs`; and what callers' proofs need, `Legs`, `Tallies`. The rest serves these and the functions' proofs.
+pub mod PairLaws
 pub mod Demand3
 pub mod Counting
 pub mod Finite

@@ -13,7 +13,7 @@ use Rattle.arcstring.proofs.Splices.{splice-next, splice-nothing, length-splice
 use Rattle.arcstring_crossing.specs.declared.crossing.Pair.{Pair}
 use Rattle.arcstring_crossing.specs.declared.crossing.Pair.the-variants.{Clean, End, Grazing, Apart}
 use Rattle.arcstring_crossing.specs.declared.crossing.Outcome.{Outcome}
-use Rattle.arcstring_crossing.specs.declared.crossing.Outcome.the-variants.{Kept, Dropped}
+use Rattle.arcstring_crossing.specs.declared.crossing.Outcome.the-variants.{Kept, Dropped, None}
 use Rattle.arcstring_crossing.specs.Listing.{Mark, keptMarks, markPoint, markByte}
 use Rattle.arcstring_crossing.proofs.Tallies.{kept-append}
 
@@ -51,9 +51,13 @@ module _ (p : Pair) where
   unfolding keptMarks filterMap
   keeps-kept o x h k = rw (h, k)
 
-  pub dropped-keeps-none : (o : Outcome) → p ≡ Grazing o → o ≡ Dropped → keptMarks (p ∷ []) ≡ []
+  pub dropped-keeps-none : (o : Outcome) (x : SphericalPoint) → p ≡ Grazing o → o ≡ Dropped x → keptMarks (p ∷ []) ≡ []
   unfolding keptMarks filterMap
-  dropped-keeps-none o h k = rw (h, k)
+  dropped-keeps-none o x h k = rw (h, k)
+
+  pub no-point-keeps-none : (o : Outcome) → p ≡ Grazing o → o ≡ None → keptMarks (p ∷ []) ≡ []
+  unfolding keptMarks filterMap
+  no-point-keeps-none o h k = rw (h, k)
 
   pub end-keeps-none : (x : SphericalPoint) → p ≡ End x → keptMarks (p ∷ []) ≡ []
   unfolding keptMarks filterMap

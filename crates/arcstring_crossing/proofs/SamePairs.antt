@@ -13,7 +13,7 @@ use Rattle.arcstring.specs.Points.{point, noPoint}
 use Rattle.arcstring_crossing.specs.declared.crossing.Pair.{Pair}
 use Rattle.arcstring_crossing.specs.declared.crossing.Pair.the-variants.{Clean, End, Grazing, Apart}
 use Rattle.arcstring_crossing.specs.declared.crossing.Outcome.{Outcome}
-use Rattle.arcstring_crossing.specs.declared.crossing.Outcome.the-variants.{Dropped}
+use Rattle.arcstring_crossing.specs.declared.crossing.Outcome.the-variants.{None}
 use Rattle.arcstring_crossing.specs.Crossing.{Leg, pairOf}
 use Rattle.arcstring_crossing.specs.Listing.{pairsBetween, pairsWithin, oneClean, oneEnd, oneGrazing, oneApart, total, countsOf, keptMarks, cleanPoints}
 use Rattle.arcstring_crossing.specs.Changes.{PointValue, pointValue}
@@ -30,7 +30,7 @@ pointOf v = point (float (v .x)) (float (v .y)) (float (v .z))
 abbrev pairWith : PairValue → Pair
 pairWith (cleanAt v) = Clean (pointOf v)
 pairWith endClass = End noPoint
-pairWith grazingClass = Grazing Dropped
+pairWith grazingClass = Grazing None
 pairWith apartClass = Apart
 
 abbrev pub SamePairs : List Pair → List Pair → Type 0
@@ -43,7 +43,7 @@ module _ (f : Pair → ℕ) (c : (p q : SphericalPoint) → f (Clean p) ≡ f (C
   number-of : (p : Pair) → f (pairWith (pairValue p)) ≡ f p
   number-of (Clean p) = c (pointOf (pointValue p)) p
   number-of (End p) = e noPoint p
-  number-of (Grazing o) = g Dropped o
+  number-of (Grazing o) = g None o
   number-of Apart = refl
 
   total-values : (ps : List Pair) → total (λ (v : PairValue). f (pairWith v)) (map pairValue ps) ≡ total f ps

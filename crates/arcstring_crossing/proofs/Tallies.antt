@@ -9,7 +9,7 @@ use Rattle.sphericalpoint.specs.declared.SphericalPoint.{SphericalPoint}
 use Rattle.arcstring_crossing.specs.declared.crossing.Pair.{Pair}
 use Rattle.arcstring_crossing.specs.declared.crossing.Pair.the-variants.{Clean, End, Grazing, Apart}
 use Rattle.arcstring_crossing.specs.declared.crossing.Outcome.{Outcome}
-use Rattle.arcstring_crossing.specs.declared.crossing.Outcome.the-variants.{Kept, Dropped}
+use Rattle.arcstring_crossing.specs.declared.crossing.Outcome.the-variants.{Kept, Dropped, None}
 use Rattle.arcstring_crossing.specs.declared.tally.Tally.{Tally}
 use Rattle.arcstring_crossing.specs.Listing.{total, oneClean, oneEnd, oneGrazing, oneApart, keptMark, keptMarks, countsOf}
 use Rattle.arcstring_crossing.specs.Tally.{noTally, tallyOn, tallySum, tallyCounts}
@@ -20,14 +20,19 @@ pub kept-of-kept : (o : Outcome) (p : SphericalPoint) → o ≡ Kept p → 1 ≡
 unfolding keptMarks filterMap
 kept-of-kept o p h = rw h
 
-pub kept-of-dropped : (o : Outcome) → o ≡ Dropped → 0 ≡ length (keptMarks (Grazing o ∷ []))
+pub kept-of-dropped : (o : Outcome) (p : SphericalPoint) → o ≡ Dropped p → 0 ≡ length (keptMarks (Grazing o ∷ []))
 unfolding keptMarks filterMap
-kept-of-dropped o h = rw h
+kept-of-dropped o p h = rw h
+
+pub kept-of-none : (o : Outcome) → o ≡ None → 0 ≡ length (keptMarks (Grazing o ∷ []))
+unfolding keptMarks filterMap
+kept-of-none o h = rw h
 
 pub kept-of-grazing : (o : Outcome) (k : ℕ) → k ≡ length (keptMarks (Grazing o ∷ [])) → k ≤ 1
 unfolding keptMarks filterMap
 kept-of-grazing (Kept p) k h = omega arith
-kept-of-grazing Dropped k h = omega arith
+kept-of-grazing (Dropped p) k h = omega arith
+kept-of-grazing None k h = omega arith
 
 module _ (t : Tally) (p : Pair) where
   pub count-clean : (x : SphericalPoint) → p ≡ Clean x
@@ -85,7 +90,8 @@ kept-bound [] = omega arith
 kept-bound (Clean p ∷ ps) = omega (arith, kept-bound ps)
 kept-bound (End p ∷ ps) = omega (arith, kept-bound ps)
 kept-bound (Grazing (Kept p) ∷ ps) = omega (arith, kept-bound ps)
-kept-bound (Grazing Dropped ∷ ps) = omega (arith, kept-bound ps)
+kept-bound (Grazing (Dropped p) ∷ ps) = omega (arith, kept-bound ps)
+kept-bound (Grazing None ∷ ps) = omega (arith, kept-bound ps)
 kept-bound (Apart ∷ ps) = omega (arith, kept-bound ps)
 
 pub sum-grows : (t : Tally) (ps : List Pair) → tallySum t ≤ tallySum (tallyOn t ps)

@@ -1,6 +1,7 @@
 -- The class of a pair of legs, as document 01 defines it over the Rust's `arcs_crossing`. Definitions only.
 use mathlib.Core.Bool.{Bool, true, false, not, _&&_, _||_}
 use mathlib.Core.List.{List, [], _∷_}
+use mathlib.Core.Option.{Option, none, some}
 use Prim.Native.Nat.{ℕ}
 use lib.IntN.{pos}
 use lib.ListN.{getD}
@@ -13,7 +14,7 @@ use Rattle.arcstring.specs.Check.{pointCheck}
 use Rattle.arcstring_crossing.specs.declared.crossing.Pair.{Pair}
 use Rattle.arcstring_crossing.specs.declared.crossing.Pair.the-variants.{Clean, End, Grazing, Apart}
 use Rattle.arcstring_crossing.specs.declared.crossing.Outcome.{Outcome}
-use Rattle.arcstring_crossing.specs.declared.crossing.Outcome.the-variants.{Kept, Dropped}
+use Rattle.arcstring_crossing.specs.declared.crossing.Outcome.the-variants.{Kept, Dropped, None}
 use Rattle.arcstring_crossing.specs.declared.crossing.Crossed.{Crossed}
 use Rattle.arcstring_crossing.specs.declared.crossing.Crossed.the-variants as C
 
@@ -91,13 +92,13 @@ everySide t (s ∷ l) = t s && everySide t l
 unfoldable pub atEnd : SphericalPoint → Leg → Leg → Bool
 atEnd p a b = xyzEq p (a .from) || xyzEq p (a .to) || xyzEq p (b .from) || xyzEq p (b .to)
 
--- what the Rust does with a grazing pair's point: an end's is dropped
-unfoldable pub keptPoint : SphericalPoint → Leg → Leg → Outcome
-keptPoint p a b = pick (atEnd p a b) Dropped (Kept p)
+-- a grazing pair's point, which the Rust's `arcs_crossing` answers: its listings drop one that is an end
+unfoldable pub keptOrDropped : SphericalPoint → Leg → Leg → Outcome
+keptOrDropped p a b = pick (atEnd p a b) (Dropped p) (Kept p)
 
--- by the signs of its zeros, as the Rust has it
+-- by the signs of its zeros, as the Rust has it: where they differ it answers no point
 unfoldable pub grazingOutcome : SphericalPoint → Leg → Leg → List Float → Outcome
-grazingOutcome t a b s = pick (everySide signPositive s) (keptPoint t a b) (pick (everySide signNegative s) (keptPoint (xyzNeg t) a b) Dropped)
+grazingOutcome t a b s = pick (everySide signPositive s) (keptOrDropped t a b) (pick (everySide signNegative s) (keptOrDropped (xyzNeg t) a b) None)
 
 -- the signs agree
 unfoldable pub endOrClean : SphericalPoint → Leg → Leg → Pair
@@ -112,14 +113,59 @@ classAt t a b s =
 unfoldable pub pairOf : Leg → Leg → Pair
 pairOf a b = classAt (meeting a b) a b (sideValues a b (meeting a b))
 
+-- ---- a pair in document 01's numbers and values
+
+-- the number of its class: 1 clean, 2 end, 3 grazing, 4 apart
+abbrev pub classNumber : Pair → ℕ
+classNumber (Clean p) = 1
+classNumber (End p) = 2
+classNumber (Grazing o) = 3
+classNumber Apart = 4
+
+-- the point that the Rust's `arcs_crossing` answers
+abbrev pub outcomePoint : Outcome → Option SphericalPoint
+outcomePoint (Kept p) = some p
+outcomePoint (Dropped p) = some p
+outcomePoint None = none
+
+abbrev pub pairPoint : Pair → Option SphericalPoint
+pairPoint (Clean p) = some p
+pairPoint (End p) = some p
+pairPoint (Grazing o) = outcomePoint o
+pairPoint Apart = none
+
+-- whether the listings keep that point
+abbrev pub outcomeKept : Outcome → Bool
+outcomeKept (Kept p) = true
+outcomeKept (Dropped p) = false
+outcomeKept None = false
+
+abbrev pub pairKept : Pair → Bool
+pairKept (Clean p) = true
+pairKept (End p) = false
+pairKept (Grazing o) = outcomeKept o
+pairKept Apart = false
+
+pub record Judged : Type 0 where
+  pub class : ℕ
+  pub point : Option SphericalPoint
+  pub kept : Bool
+
+abbrev pub judged : Pair → Judged
+judged p = record { class = classNumber p; point = pairPoint p; kept = pairKept p }
+
+-- the point where the listings keep it
+abbrev pub keptPoint : Judged → Option SphericalPoint
+keptPoint j = pick (j .kept) (j .point) none
+
 -- ---- the call
 
 unfoldable pub legCheck : Leg → ℕ
 legCheck l = firstOf (pointCheck (l .from)) (pointCheck (l .to))
 
-unfoldable pub arcsCrossing : Leg → Leg → Answer Pair
-arcsCrossing a b = unlessRefused (legCheck a) (unlessRefused (legCheck b) (answered (pairOf a b)))
+unfoldable pub arcsCrossing : Leg → Leg → Answer Judged
+arcsCrossing a b = unlessRefused (legCheck a) (unlessRefused (legCheck b) (answered (judged (pairOf a b))))
 
-abbrev pub crossedAnswer : Crossed → Answer Pair
-crossedAnswer (C.Pair p) = answered p
+abbrev pub crossedAnswer : Crossed → Answer Judged
+crossedAnswer (C.Pair p) = answered (judged p)
 crossedAnswer (C.Refused e) = refused (refusalNumber e)

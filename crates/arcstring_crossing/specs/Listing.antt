@@ -8,18 +8,16 @@ use lib.Dec.{leb, eqb, ltb}
 use lib.Ieee.{Float}
 use Rattle.sphericalpoint.specs.declared.SphericalPoint.{SphericalPoint}
 use Rattle.sphericalpoint.specs.Point.{normalizedUnlessShort}
-use Rattle.arcstring.specs.Answer.{Answer, refused, answered, unlessRefused, mapAnswer, pick, refusalNumber}
+use Rattle.arcstring.specs.Answer.{Answer, refused, answered, unlessRefused, mapAnswer, pick, flagNumber, refusalNumber}
 use Rattle.arcstring.specs.Points.{points, flat}
 use Rattle.arcstring.specs.Check.{storedCheck, roomCheck}
 use Rattle.arcstring_crossing.specs.declared.crossing.Pair.{Pair}
-use Rattle.arcstring_crossing.specs.declared.crossing.Pair.the-variants.{Clean, End, Grazing, Apart}
-use Rattle.arcstring_crossing.specs.declared.crossing.Outcome.the-variants.{Kept, Dropped}
 use Rattle.arcstring_crossing.specs.declared.listing.Counts.{Counts}
 use Rattle.arcstring_crossing.specs.declared.listing.Counted.{Counted}
 use Rattle.arcstring_crossing.specs.declared.listing.Counted.the-variants as C
 use Rattle.arcstring_crossing.specs.declared.listing.Listed.{Listed}
 use Rattle.arcstring_crossing.specs.declared.listing.Listed.the-variants as L
-use Rattle.arcstring_crossing.specs.Crossing.{Leg, leg, pairOf, legCheck}
+use Rattle.arcstring_crossing.specs.Crossing.{Leg, leg, pairOf, classNumber, judged, keptPoint, legCheck}
 
 -- ---- legs
 
@@ -48,29 +46,21 @@ pairsWithin (a ∷ ls) = map (pairOf a) (drop 1 ls) ++ pairsWithin ls
 
 -- ---- the four counts: of the visited pairs, those of each class
 
+-- 1 for a pair of the class that has the number, else 0
+abbrev pub ofClass : ℕ → Pair → ℕ
+ofClass n p = flagNumber (eqb (classNumber p) n)
+
 abbrev pub oneClean : Pair → ℕ
-oneClean (Clean p) = 1
-oneClean (End p) = 0
-oneClean (Grazing o) = 0
-oneClean Apart = 0
+oneClean p = ofClass 1 p
 
 abbrev pub oneEnd : Pair → ℕ
-oneEnd (Clean p) = 0
-oneEnd (End p) = 1
-oneEnd (Grazing o) = 0
-oneEnd Apart = 0
+oneEnd p = ofClass 2 p
 
 abbrev pub oneGrazing : Pair → ℕ
-oneGrazing (Clean p) = 0
-oneGrazing (End p) = 0
-oneGrazing (Grazing o) = 1
-oneGrazing Apart = 0
+oneGrazing p = ofClass 3 p
 
 abbrev pub oneApart : Pair → ℕ
-oneApart (Clean p) = 0
-oneApart (End p) = 0
-oneApart (Grazing o) = 0
-oneApart Apart = 1
+oneApart p = ofClass 4 p
 
 unfoldable pub total : {X : Type 0} → (X → ℕ) → List X → ℕ
 total g [] = 0
@@ -85,12 +75,12 @@ pub record Mark : Type 0 where
   pub point : SphericalPoint
   pub byte : ℕ
 
+abbrev pub marked : ℕ → Option SphericalPoint → Option Mark
+marked class none = none
+marked class (some p) = some (record { point = p; byte = flagNumber (eqb class 1) })
+
 abbrev pub keptMark : Pair → Option Mark
-keptMark (Clean p) = some (record { point = p; byte = 1 })
-keptMark (End p) = none
-keptMark (Grazing (Kept p)) = some (record { point = p; byte = 0 })
-keptMark (Grazing Dropped) = none
-keptMark Apart = none
+keptMark p = marked (classNumber p) (keptPoint (judged p))
 
 unfoldable pub keptMarks : List Pair → List Mark
 unfolding filterMap

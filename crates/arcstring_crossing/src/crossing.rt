@@ -2,16 +2,18 @@
 ghost use mathlib.Core.Path.{_≡_};
 ghost use Rattle.arcstring.specs.Check.{checkNumber};
 ghost use Rattle.arcstring_crossing.specs.Plane.{planeLeg, planeOf, planeSides};
-ghost use Rattle.arcstring_crossing.specs.Crossing.{leg, legOf, grazes, isAbove, isBelow, signNegative, signPositive, someSide, everySide, atEnd, keptPoint, grazingOutcome, endOrClean, classAt, pairOf, legCheck, arcsCrossing, crossedAnswer};
+ghost use Rattle.arcstring_crossing.specs.Crossing.{leg, legOf, grazes, isAbove, isBelow, signNegative, signPositive, someSide, everySide, atEnd, keptOrDropped, grazingOutcome, endOrClean, classAt, pairOf, legCheck, arcsCrossing, crossedAnswer};
 use arcstring::check;
 use arcstring::check::Checked;
 use arcstring::check::Refusal;
 use sphericalpoint::SphericalPoint;
 
-// What the source does with a grazing pair's point, by the signs of its zeros.
+// What the source does with a grazing pair, by the signs of its zeros. Where they agree `arcs_crossing` answers a point, which the
+// listings keep, or drop if it is an end; where they differ it answers none.
 pub enum Outcome {
     Kept(SphericalPoint),
-    Dropped,
+    Dropped(SphericalPoint),
+    None,
 }
 
 // The class of a pair of legs, with its point where it has one.
@@ -165,18 +167,18 @@ fn at_end(
         | sphericalpoint::xyz_eq(p, b1)
 }
 
-// A grazing pair's point is kept unless it is an end.
-fn kept_point(
+// The signs agree, some by a zero's: the listings drop the point if it is one of the four ends, else they keep it.
+fn kept_or_dropped(
     point: SphericalPoint,
     a0: SphericalPoint,
     a1: SphericalPoint,
     b0: SphericalPoint,
     b1: SphericalPoint,
 ) -> Outcome
-    ensures { λ r. ⌜ r ≡ keptPoint point (leg a0 a1) (leg b0 b1) ⌝ }
+    ensures { λ r. ⌜ r ≡ keptOrDropped point (leg a0 a1) (leg b0 b1) ⌝ }
 {
     if at_end(point, a0, a1, b0, b1) {
-        Outcome::Dropped
+        Outcome::Dropped(point)
     } else {
         Outcome::Kept(point)
     }
@@ -194,12 +196,12 @@ fn grazing_outcome(
     ensures { λ r. ⌜ r ≡ grazingOutcome t (leg a0 a1) (leg b0 b1) s ⌝ }
 {
     if all_sign_positive(s) {
-        return kept_point(t, a0, a1, b0, b1);
+        return kept_or_dropped(t, a0, a1, b0, b1);
     }
     if all_sign_negative(s) {
-        return kept_point(sphericalpoint::xyz_neg(t), a0, a1, b0, b1);
+        return kept_or_dropped(sphericalpoint::xyz_neg(t), a0, a1, b0, b1);
     }
-    Outcome::Dropped
+    Outcome::None
 }
 
 // The signs agree: an end if the point is one of the four, else clean.

@@ -1,9 +1,8 @@
 // What the walks over legs count up and write.
 ghost use mathlib.Core.Path.{_≡_};
-ghost use mathlib.Core.Bool.{true};
 ghost use mathlib.Core.List.{_∷_, [], map};
 ghost use Prim.Native.Nat.{_+_, _-_, _*_, _≤_, _<_};
-ghost use lib.ListN.{length, take};
+ghost use lib.ListN.{length};
 ghost use Rattle.arcstring.specs.Points.{pointAt, points, flat};
 ghost use Rattle.arcstring.specs.Splice.{splice};
 ghost use Rattle.arcstring_crossing.specs.Crossing.{leg, legOf};
@@ -126,13 +125,14 @@ fn add(t: Tally, p: Pair) -> Tally
     }
 }
 
-// 1 for a kept grazing pair, 0 for a dropped one.
+// 1 for a grazing pair whose point is kept, else 0.
 fn outcome_kept(o: Outcome) -> usize
     ensures { λ r. ⌜ r ≡ length (keptMarks (Grazing o ∷ [])) ⌝ }
 {
     match o {
         Outcome::Kept(_) => 1,
-        Outcome::Dropped => 0,
+        Outcome::Dropped(_) => 0,
+        Outcome::None => 0,
     }
 }
 
@@ -208,13 +208,14 @@ fn store(points: &mut [f64], marks: &mut [u8], at: usize, p: Pair) -> usize
             put_mark(points, marks, at, t, 1);
             return at + 1;
         }
-        Pair::Grazing(o) => {
-            if let Outcome::Kept(t) = o {
+        Pair::Grazing(o) => match o {
+            Outcome::Kept(t) => {
                 put_mark(points, marks, at, t, 0);
                 return at + 1;
             }
-            return at;
-        }
+            Outcome::Dropped(_) => return at,
+            Outcome::None => return at,
+        },
         Pair::End(_) => at,
         Pair::Apart => at,
     }

@@ -2,6 +2,7 @@
 use mathlib.Core.Path.{_≡_, refl}
 use mathlib.Core.Bool.{true, false}
 use mathlib.Core.List.{[], _∷_, _++_}
+use mathlib.Core.Option.{none, some}
 use lib.Ieee.{add, sub, mul, div, neg, lt, eq, le, round}
 use Rattle.ieee754.specs.Size.{abs}
 use Rattle.sphericalpoint.specs.Sqrt.{sqrtOf}
@@ -12,19 +13,17 @@ use Rattle.arcstring.specs.Point.{coplanarPoints}
 use Rattle.arcstring.specs.Build.{endsMeet, builtVertices, builtString, buildInto, build}
 use Rattle.arcstring.specs.Answer.{refused, answered}
 use Rattle.arcstring.specs.Points.{point}
-use Rattle.arcstring_crossing.specs.Crossing.{normal, meeting, sideFrom, sideTo, sideValues, grazes, isAbove, isBelow, signNegative, signPositive, someSide, everySide, atEnd, keptPoint, grazingOutcome, endOrClean, classAt, pairOf, legCheck, arcsCrossing}
-use Rattle.arcstring_crossing.specs.declared.crossing.Pair.the-variants.{Clean, Grazing, Apart}
-use Rattle.arcstring_crossing.specs.declared.crossing.Outcome.the-variants.{Kept}
+use Rattle.arcstring_crossing.specs.Crossing.{normal, meeting, sideFrom, sideTo, sideValues, grazes, isAbove, isBelow, signNegative, signPositive, someSide, everySide, atEnd, keptOrDropped, grazingOutcome, endOrClean, classAt, pairOf, legCheck, arcsCrossing}
 use Rattle.arcstring_simplify.specs.Simplify.{thirdPosition, unnecessary, unnecessaryFrom, unnecessaryPositions, removeAt, removeAll, isSimple, rounds, simplified, simplify}
 use Rattle.known_answers.specs.Twelve.{crossing, coplanar, building, simplifying, root, nought, unit, half, pointX, pointY, crossings, coplanars, buildings, simplifyings, roots, twelve, answers}
 
 known-crossings : crossings
-    ≡ crossing (answered (Clean (point unit nought nought)))
-    ∷ crossing (answered Apart)
-    ∷ crossing (answered (Grazing (Kept (point half nought nought))))
-    ∷ crossing (answered (Grazing (Kept (point nought nought nought))))
+    ≡ crossing (answered (record { class = 1; point = some (point unit nought nought); kept = true }))
+    ∷ crossing (answered (record { class = 4; point = none; kept = false }))
+    ∷ crossing (answered (record { class = 3; point = some (point half nought nought); kept = true }))
+    ∷ crossing (answered (record { class = 3; point = some (point nought nought nought); kept = true }))
     ∷ []
-unfolding arcsCrossing legCheck pointCheck inRange pairOf classAt endOrClean grazingOutcome keptPoint atEnd everySide someSide signPositive signNegative isBelow isAbove grazes sideValues sideTo sideFrom meeting normal equalityTolerance xyzSub xyzMul xyzNeg xyzAbs xyzSum xyzDot xyzCross xyzEq abs add sub mul neg lt eq le round
+unfolding arcsCrossing legCheck pointCheck inRange pairOf classAt endOrClean grazingOutcome keptOrDropped atEnd everySide someSide signPositive signNegative isBelow isAbove grazes sideValues sideTo sideFrom meeting normal equalityTolerance xyzSub xyzMul xyzNeg xyzAbs xyzSum xyzDot xyzCross xyzEq abs add sub mul neg lt eq le round
 known-crossings = refl
 
 known-coplanars : coplanars ≡ coplanar (answered true) ∷ coplanar (answered false) ∷ coplanar (answered false) ∷ coplanar (answered false) ∷ []

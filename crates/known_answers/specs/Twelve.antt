@@ -1,7 +1,7 @@
 -- Document 01's twelve known answers: what the definitions give, and what the document says, as two lists. X, Y and Z are the axis unit points, M is (0.5, 0.5, 0). Definitions only.
 use mathlib.Core.Bool.{Bool, true, false}
 use mathlib.Core.List.{List, [], _∷_, _++_}
-use Prim.Native.Nat.{ℕ}
+use mathlib.Core.Option.{none, some}
 use lib.IntN.{pos, negsuc}
 use lib.Ieee.{Float, fin}
 use Rattle.sphericalpoint.specs.declared.SphericalPoint.{SphericalPoint}
@@ -10,14 +10,11 @@ use Rattle.arcstring.specs.Answer.{Answer, refused, answered}
 use Rattle.arcstring.specs.Points.{ArcString, point, flat}
 use Rattle.arcstring.specs.Point.{coplanarPoints}
 use Rattle.arcstring.specs.Build.{builtString, build}
-use Rattle.arcstring_crossing.specs.declared.crossing.Pair.{Pair}
-use Rattle.arcstring_crossing.specs.declared.crossing.Pair.the-variants.{Clean, Grazing, Apart}
-use Rattle.arcstring_crossing.specs.declared.crossing.Outcome.the-variants.{Kept}
-use Rattle.arcstring_crossing.specs.Crossing.{Leg, leg, arcsCrossing}
+use Rattle.arcstring_crossing.specs.Crossing.{Leg, leg, Judged, arcsCrossing}
 use Rattle.arcstring_simplify.specs.Simplify.{simplify}
 
 pub data Known : Type 0 where
-  crossing : Answer Pair → Known
+  crossing : Answer Judged → Known
   coplanar : Answer Bool → Known
   building : Answer ArcString → Known
   simplifying : Answer (List SphericalPoint) → Known
@@ -104,13 +101,13 @@ roots = root (sqrtOf nought) ∷ root (sqrtOf quarter) ∷ root (sqrtOf unit) �
 unfoldable pub twelve : List Known
 twelve = crossings ++ (coplanars ++ (buildings ++ (simplifyings ++ roots)))
 
--- In 3 and 4 the points that the Rust keeps stand too: (0.5, 0, 0), not normalised, and (0, 0, 0).
+-- Class 1 is clean, 3 grazing, 4 apart. In 3 and 4 the points that the Rust keeps stand too: (0.5, 0, 0), not normalised, and (0, 0, 0).
 abbrev pub answers : List Known
 answers =
-    crossing (answered (Clean (point unit nought nought)))
-    ∷ crossing (answered Apart)
-    ∷ crossing (answered (Grazing (Kept (point half nought nought))))
-    ∷ crossing (answered (Grazing (Kept (point nought nought nought))))
+    crossing (answered (record { class = 1; point = some (point unit nought nought); kept = true }))
+    ∷ crossing (answered (record { class = 4; point = none; kept = false }))
+    ∷ crossing (answered (record { class = 3; point = some (point half nought nought); kept = true }))
+    ∷ crossing (answered (record { class = 3; point = some (point nought nought nought); kept = true }))
     ∷ coplanar (answered true)
     ∷ coplanar (answered false)
     ∷ coplanar (answered false)

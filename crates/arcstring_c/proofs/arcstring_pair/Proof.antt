@@ -1,7 +1,7 @@
 -- A pair's class, its mark and its point are put into their places, and a refusal changes nothing. Assumes nothing.
 use mathlib.Core.Path.{refl, sym, ap, _∙_}
 use Rattle.arcstring_crossing.specs.Crossing.{crossedAnswer}
-use Rattle.arcstring_c.specs.Numbers.{classNumber, keptByte, pairPoint}
+use Rattle.arcstring_c.specs.Numbers.{classByte, keptByte, pointPlace}
 use Rattle.arcstring_c.proofs.Places.{number-as, place-as}
 use borrow.Author.Needs.{needs}
 use Rattle.arcstring_c.proofs.arcstring_pair.Statement.{statement}
@@ -38,13 +38,13 @@ returns : tie.Need-returns
 returns c =
     let d = c .before .before .before .before in
     let h = sym (ap crossedAnswer (c .before .before .r .given .1)) ∙ (rw (d .before .before .leg-of .ensures, d .before .leg-of2 .ensures) at (d .arcs-crossing .ensures)) in
-    (number-as h (c .number .ensures), (place-as h classNumber _ refl, (place-as h keptByte _ refl, place-as h (pairPoint _) _ refl)))
+    (number-as h (c .number .ensures), (place-as h classByte _ refl, (place-as h keptByte _ refl, place-as h (pointPlace _) _ refl)))
 
 returns-2 : tie.Need-returns-2
 returns-2 c =
     let d = c .before .before .before .before .before .before .before in
     let h = sym (ap crossedAnswer (c .before .before .before .before .before .r2 .given .1)) ∙ (rw (d .before .before .leg-of .ensures, d .before .leg-of2 .ensures) at (d .arcs-crossing .ensures)) in
-    (number-as h refl, (place-as h classNumber _ (c .before .before .before .class-number .ensures), (place-as h keptByte _ (c .before .before .kept-byte .ensures), place-as h (pairPoint _) _ (c .put-pair-point .ensures))))
+    (number-as h refl, (place-as h classByte _ (c .before .before .before .class-number .ensures), (place-as h keptByte _ (c .before .before .kept-byte .ensures), place-as h (pointPlace _) _ (c .put-pair-point .ensures))))
 
 pub arcstring-pair-spec : {M : Type 1} → statement M
 arcstring-pair-spec =

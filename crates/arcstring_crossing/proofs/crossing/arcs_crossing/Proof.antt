@@ -2,7 +2,8 @@
 use mathlib.Core.Path.{ap, _∙_}
 use Rattle.arcstring.specs.Answer.{answered}
 use Rattle.arcstring.proofs.Answers.{answer-refused-first, answer-accepted-first, both-numbers}
-use Rattle.arcstring_crossing.specs.Crossing.{legCheck, arcsCrossing}
+use Rattle.arcstring_crossing.specs.declared.crossing.Pair.{Pair}
+use Rattle.arcstring_crossing.specs.Crossing.{judged, legCheck, arcsCrossing}
 use borrow.Author.Needs.{needs}
 use Rattle.arcstring_crossing.proofs.crossing.arcs_crossing.Statement.{statement}
 use Rattle.arcstring_crossing.proofs.crossing.arcs_crossing.Tie as tie
@@ -33,7 +34,7 @@ returns c = let f = c .before .before .before in
 returns-2 : tie.Need-returns-2
 unfolding arcsCrossing
 returns-2 c = let f = c .before .before .before in
-    ap answered (c .pair-of .ensures) ∙ answer-accepted-first _ (legCheck _) (legCheck _) _ (c .before .enum-told .given .1) (f .first-of .ensures ∙ both-numbers (f .before .before .check-leg .ensures) (f .before .check-leg2 .ensures))
+    ap (λ (p : Pair). answered (judged p)) (c .pair-of .ensures) ∙ answer-accepted-first _ (legCheck _) (legCheck _) _ (c .before .enum-told .given .1) (f .first-of .ensures ∙ both-numbers (f .before .before .check-leg .ensures) (f .before .check-leg2 .ensures))
 
 pub arcs-crossing-spec : {M : Type 1} → statement M
 arcs-crossing-spec =

@@ -2,8 +2,8 @@
 use mathlib.Core.Path.{sym, _∙_}
 use Rattle.arcstring_crossing.proofs.Classes.{end-dropped, other-kept}
 use borrow.Author.Needs.{needs}
-use Rattle.arcstring_crossing.proofs.crossing.kept_point.Statement.{statement}
-use Rattle.arcstring_crossing.proofs.crossing.kept_point.Tie as tie
+use Rattle.arcstring_crossing.proofs.crossing.kept_or_dropped.Statement.{statement}
+use Rattle.arcstring_crossing.proofs.crossing.kept_or_dropped.Tie as tie
 
 at-end-requires : tie.Need-at-end-requires
 at-end-requires c κs = search needs
@@ -14,5 +14,5 @@ returns c = end-dropped _ _ _ (sym (c .before .at-end .ensures) ∙ c .if1 .take
 returns-2 : tie.Need-returns-2
 returns-2 c = other-kept _ _ _ (sym (c .before .at-end .ensures) ∙ c .if1 .left)
 
-pub kept-point-spec : {M : Type 1} → statement M
-kept-point-spec = tie.close (tie.spec at-end-requires returns returns-2)
+pub kept-or-dropped-spec : {M : Type 1} → statement M
+kept-or-dropped-spec = tie.close (tie.spec at-end-requires returns returns-2)

@@ -1,5 +1,5 @@
 -- What one pair keeps is written at a place: one point and its mark, or nothing. Assumes nothing.
-use Rattle.arcstring_crossing.proofs.Marks.{keeps-clean, keeps-kept, dropped-keeps-none, end-keeps-none, apart-keeps-none, room-for-one, one-written, none-written}
+use Rattle.arcstring_crossing.proofs.Marks.{keeps-clean, keeps-kept, dropped-keeps-none, no-point-keeps-none, end-keeps-none, apart-keeps-none, room-for-one, one-written, none-written}
 use borrow.Author.Needs.{needs}
 use Rattle.arcstring_crossing.proofs.tally.store.Statement.{statement}
 use Rattle.arcstring_crossing.proofs.tally.store.Tie as tie
@@ -52,19 +52,25 @@ enum-told : tie.Need-enum-told
 enum-told c = search needs
 
 returns-3 : tie.Need-returns-3
-returns-3 c = none-written _ _ _ _ (dropped-keeps-none _ _ (c .before .before .before .p2 .given .1) (c .enum-told .given .1))
+returns-3 c = none-written _ _ _ _ (dropped-keeps-none _ _ _ (c .before .before .before .p2 .given .1) (c .enum-told .given .1))
 
 enum-told-2 : tie.Need-enum-told-2
 enum-told-2 c = search needs
 
+returns-4 : tie.Need-returns-4
+returns-4 c = none-written _ _ _ _ (no-point-keeps-none _ _ (c .before .before .before .p2 .given .1) (c .enum-told2 .given .1))
+
 enum-told-3 : tie.Need-enum-told-3
 enum-told-3 c = search needs
 
-returns-4 : tie.Need-returns-4
-returns-4 c = none-written _ _ _ _ (end-keeps-none _ _ (c .enum-told2 .given .1))
+enum-told-4 : tie.Need-enum-told-4
+enum-told-4 c = search needs
 
 returns-5 : tie.Need-returns-5
-returns-5 c = none-written _ _ _ _ (apart-keeps-none _ (c .enum-told3 .given .1))
+returns-5 c = none-written _ _ _ _ (end-keeps-none _ _ (c .enum-told3 .given .1))
+
+returns-6 : tie.Need-returns-6
+returns-6 c = none-written _ _ _ _ (apart-keeps-none _ (c .enum-told4 .given .1))
 
 pub store-spec : {M : Type 1} → statement M
 store-spec =
@@ -86,6 +92,8 @@ store-spec =
     enum-told
     returns-3
     enum-told-2
-    enum-told-3
     returns-4
-    returns-5)
+    enum-told-3
+    enum-told-4
+    returns-5
+    returns-6)
