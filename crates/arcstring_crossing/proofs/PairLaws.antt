@@ -1,8 +1,9 @@
 -- Every pair of legs in range has the Rust's point, keeps what the Rust keeps, and is of the class that document 01's words describe. Assumes nothing.
-use mathlib.Core.Path.{_≡_, refl, subst}
+use mathlib.Core.Path.{_≡_, refl, sym, ap, subst, _∙_}
 use mathlib.Core.Bool.{Bool, true, false, not, _&&_, _||_}
 use mathlib.Core.List.{List, [], _∷_, List·Memᴰ, List·Memᴰ·head, List·Memᴰ·tail}
 use mathlib.Core.Option.{Option, none, some}
+use Prim.Native.Nat.{ℕ}
 use lib.Dec.{eqb}
 use lib.Ieee.{Float, ofBits}
 use Rattle.sphericalpoint.specs.declared.SphericalPoint.{SphericalPoint}
@@ -16,7 +17,7 @@ use Rattle.arcstring_crossing.specs.declared.crossing.Outcome.the-varian
 use Rattle.arcstring_crossing.specs.Crossing.{Leg, normal, meeting, sideFrom, sideTo, sideValues, grazes, isAbove, isBelow, signNegative, signPositive}
 use Rattle.arcstring_crossing.specs.Crossing.{someSide, everySide, atEnd, keptOrDropped, grazingOutcome, endOrClean, classAt, pairOf}
 use Rattle.arcstring_crossing.specs.Crossing.{Judged, judged, keptPoint, legCheck, arcsCrossing}
-use Rattle.arcstring_crossing.specs.PairLaws.{rustCrossing, rustKept, answersEnd, InWords, PairsInWords, PairCallInWords, StringLegsAccepted}
+use Rattle.arcstring_crossing.specs.PairLaws.{rustCrossing, rustKept, answersEnd, InWords, PairsInWords, PairCallInWords, StringLegsAccepted, JudgedApart}
 use Rattle.arcstring_crossing.proofs.Signs.{negative-of-other, positive-of-other}
 use Rattle.arcstring_crossing.proofs.Finite.{ExactlyOne, onlyFirst, onlySecond, onlyThird, side-trichotomy}
 use Rattle.arcstring_crossing.proofs.AcceptedLegs.{accepted-leg-in-range, accepted-legs-in-range, in-range-accepted}
@@ -137,3 +138,19 @@ pair-call-in-words a b j e =
 
 pub string-legs-accepted : StringLegsAccepted
 string-legs-accepted v closed h l m = in-range-accepted l (accepted-legs-in-range v closed h l m)
+
+-- the pair of a class's number, a point and whether it is kept
+abbrev unread : ℕ → Option SphericalPoint → Bool → Pair
+unread n none kept = pick (eqb n 3) (Grazing None) Apart
+unread n (some p) kept = pick (eqb n 1) (Clean p) (pick (eqb n 2) (End p) (Grazing (pick kept (Kept p) (Dropped p))))
+
+read-back : (p : Pair) → unread (judged p .class) (judged p .point) (judged p .kept) ≡ p
+read-back (Clean p) = refl
+read-back (End p) = refl
+read-back (Grazing (Kept p)) = refl
+read-back (Grazing (Dropped p)) = refl
+read-back (Grazing None) = refl
+read-back Apart = refl
+
+pub judged-apart : JudgedApart
+judged-apart p q h = sym (read-back p) ∙ ap (λ (j : Judged). unread (j .class) (j .point) (j .kept)) h ∙ read-back q

@@ -1,6 +1,6 @@
 -- What is claimed of every pair of legs with coordinates from -1 to 1: its point is the one that the Rust's `arcs_crossing` answers, the listings keep what the
 -- Rust's keep, and its class is the one that document 01's words describe. Definitions only.
--- The proofs are `pair-call-in-words`, `pairs-in-words` and `string-legs-accepted` of `proofs/PairLaws.antt`.
+-- The proofs are `pair-call-in-words`, `pairs-in-words`, `string-legs-accepted` and `judged-apart` of `proofs/PairLaws.antt`.
 use mathlib.Core.Path.{_≡_}
 use mathlib.Core.Bool.{Bool, false, not, _&&_, _||_}
 use mathlib.Core.List.{List, [], _∷_, List·Memᴰ}
@@ -12,6 +12,7 @@ use Rattle.sphericalpoint.specs.Vector.{xyzCross, xyzDot, xyzNeg}
 use Rattle.arcstring.specs.Answer.{answered, pick}
 use Rattle.arcstring.specs.Points.{points}
 use Rattle.arcstring.specs.Check.{storedCheck}
+use Rattle.arcstring_crossing.specs.declared.crossing.Pair.{Pair}
 use Rattle.arcstring_crossing.specs.Crossing.{Leg, meeting, sideValues, grazes, isAbove, isBelow, signNegative, signPositive, someSide, everySide}
 use Rattle.arcstring_crossing.specs.Crossing.{atEnd, pairOf, Judged, judged, keptPoint, legCheck, arcsCrossing}
 use Rattle.arcstring_crossing.specs.Listing.{legs}
@@ -71,14 +72,18 @@ pub record InWords (a b : Leg) (j : Judged) : Type 0 where
 
 -- ---- what is claimed
 
--- of whatever the pair call answers
+-- Whatever the pair call answers is so.
 abbrev pub PairCallInWords : Type 0
 PairCallInWords = (a b : Leg) (j : Judged) → arcsCrossing a b ≡ answered j → InWords a b j
 
--- of every pair of legs that pass the pair call's check ..
+-- So is every pair of legs that pass the pair call's check,
 abbrev pub PairsInWords : Type 0
 PairsInWords = (a b : Leg) → legCheck a ≡ 0 → legCheck b ≡ 0 → InWords a b (judged (pairOf a b))
 
--- .. as those do that a listing or a count visits: a leg by itself gets this check from its call, and the legs of an accepted string pass it
+-- as those do that a listing or a count visits: a leg by itself gets this check from its call, and the legs of an accepted string pass it.
 abbrev pub StringLegsAccepted : Type 0
 StringLegsAccepted = (v : List Float) (closed : Bool) → storedCheck v ≡ 0 → (l : Leg) → List·Memᴰ l (legs (points v) closed) → legCheck l ≡ 0
+
+-- Nothing of a pair is lost where it is read in numbers and values: no two are judged alike.
+abbrev pub JudgedApart : Type 0
+JudgedApart = (p q : Pair) → judged p ≡ judged q → p ≡ q
