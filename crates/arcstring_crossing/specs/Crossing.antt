@@ -115,7 +115,7 @@ pairOf a b = classAt (meeting a b) a b (sideValues a b (meeting a b))
 
 -- ---- a pair in document 01's numbers and values
 
--- the number of its class: 1 clean, 2 end, 3 grazing, 4 apart
+-- the number of its class, in the sequence in which document 01 counts them: 1 clean, 2 end, 3 grazing, 4 apart
 abbrev pub classNumber : Pair → ℕ
 classNumber (Clean p) = 1
 classNumber (End p) = 2
