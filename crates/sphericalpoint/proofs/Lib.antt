@@ -1,3 +1,4 @@
 pub mod Tolerances
 mod Sizes
 mod Cases
+mod Magnitudes

@@ -10,5 +10,6 @@ mod Halfway
 mod Units
 mod Patterns
 mod Placed
+mod NearOne
 mod Edges
 mod Spacing

@@ -22,12 +22,17 @@ normalizedUnlessShort a = pickPoint (lt (xyzLength a) equalityTolerance) a (norm
 unfoldable pub pointFrom : SphericalPoint → SphericalPoint
 pointFrom a = pickPoint (lt (sub binary64 (xyzLength a) one) unitTolerance) a (normalized a)
 
--- the last part of `xyzs_coplanar`, with m the cross product of a and b and l its length: c is near their plane, no farther from either than they are from each other, and they are not antipodal
+-- the last part of `xyzs_coplanar`, with m the cross product of a and b and l its length: c is near their plane, no farther from either than they
+-- are from each other, and they are not antipodal
 unfoldable pub betweenInPlane : SphericalPoint → SphericalPoint → SphericalPoint → SphericalPoint → Float → Bool
 betweenInPlane a b c m l =
     lt (div binary64 (abs (xyzDot c m)) l) coplanarTolerance
     && (le (xyzDot a b) (xyzDot a c) && le (xyzDot a b) (xyzDot b c))
     && lt (add binary64 (neg one) coplanarTolerance) (xyzDot a b)
+
+-- the part of that which needs neither m nor l, for the inner function `between_ends`
+unfoldable pub betweenEnds : SphericalPoint → SphericalPoint → SphericalPoint → Bool
+betweenEnds a b c = (le (xyzDot a b) (xyzDot a c) && le (xyzDot a b) (xyzDot b c)) && lt (add binary64 (neg one) coplanarTolerance) (xyzDot a b)
 
 -- `xyzs_coplanar`. c is sought between a and b, although its callers pass the point that they ask about as b.
 unfoldable pub xyzsCoplanar : SphericalPoint → SphericalPoint → SphericalPoint → Bool

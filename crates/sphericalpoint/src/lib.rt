@@ -2,10 +2,10 @@
 // with the source's names. A point goes by value; each float operation is rounded once, in the source's order.
 // Every function takes any floats, infinities and NaN among them.
 ghost use mathlib.Core.Path.{_≡_};
-ghost use lib.Ieee.{binary64};
 ghost use Rattle.ieee754.specs.Size.{abs};
+ghost use Rattle.ieee754.specs.Value.{value};
 ghost use Rattle.sphericalpoint.specs.Vector.{xyzAdd, xyzSub, xyzMul, xyzDiv, xyzNeg, xyzAbs, xyzSum, xyzDot, xyzCross, xyzLength, xyzEq, normalized};
-ghost use Rattle.sphericalpoint.specs.Point.{normalizedUnlessShort, pointFrom, betweenInPlane, xyzsCoplanar};
+ghost use Rattle.sphericalpoint.specs.Point.{normalizedUnlessShort, pointFrom, betweenInPlane, betweenEnds, xyzsCoplanar};
 
 pub mod sqrt;
 
@@ -109,6 +109,13 @@ fn size(x: f64) -> f64
     x
 }
 
+// The size by value: the larger of x and -x, so one comparison where `size` has two. A zero may keep its sign, which changes no sum's value.
+fn magnitude(x: f64) -> f64
+    ensures { λ r. ⌜ value r ≡ value (abs x) ⌝ }
+{
+    if x > -x { x } else { -x }
+}
+
 pub fn xyz_abs(xyz: SphericalPoint) -> SphericalPoint
     ensures { λ r. ⌜ r ≡ xyzAbs xyz ⌝ }
 {
@@ -179,7 +186,8 @@ pub fn normalize_unless_short(xyz: SphericalPoint) -> SphericalPoint
 pub fn xyz_eq(a: SphericalPoint, b: SphericalPoint) -> bool
     ensures { λ r. ⌜ r ≡ xyzEq a b ⌝ }
 {
-    xyz_sum(xyz_abs(xyz_sub_xyz(a, b))) < SphericalPoint::EQUALITY_TOLERANCE
+    let d = xyz_sub_xyz(a, b);
+    magnitude(d.x) + magnitude(d.y) + magnitude(d.z) < SphericalPoint::EQUALITY_TOLERANCE
 }
 
 // Whether c is near the plane of a and b and between them, given the cross product of a and b and its length.
@@ -199,6 +207,14 @@ fn between_in_plane(
     coplanar & interior_of_minor_arc & not_antipodal
 }
 
+// The part of that which needs no normal: a point that fails here is not between them, whatever the length of the normal.
+fn between_ends(a: SphericalPoint, b: SphericalPoint, c: SphericalPoint) -> bool
+    ensures { λ r. ⌜ r ≡ betweenEnds a b c ⌝ }
+{
+    let ab = xyz_dot(a, b);
+    (xyz_dot(a, c) >= ab) & (xyz_dot(b, c) >= ab) & (ab > -1.0 + SphericalPoint::COPLANAR_TOLERANCE)
+}
+
 // Whether a and b or b and c are equal, or c lies on the leg from a to b. Callers pass the point that they ask
 // about as b: the source does so, and its answers are kept.
 pub fn xyzs_coplanar(a: SphericalPoint, b: SphericalPoint, c: SphericalPoint) -> bool
@@ -206,6 +222,9 @@ pub fn xyzs_coplanar(a: SphericalPoint, b: SphericalPoint, c: SphericalPoint) ->
 {
     if xyz_eq(a, b) | xyz_eq(b, c) {
         return true;
+    }
+    if !between_ends(a, b, c) {
+        return false;
     }
     let normal = xyz_cross(a, b);
     let normal_length = length_of(normal.x, normal.y, normal.z);

@@ -1,13 +1,20 @@
 // The square root of an `f64`, correctly rounded, worked out from its bits in whole numbers. specs/Sqrt.antt says which
 // float it is, and specs/NearestRoot.antt what makes it the nearest to √x.
 ghost use mathlib.Core.Path.{_≡_};
-ghost use Prim.Native.Nat.{ℕ, _+_, _-_, _*_, _/_, _^_, _≤_, _<_};
+ghost use Prim.Native.Nat.{_+_, _-_, _*_, _/_, _^_, _≤_, _<_};
 ghost use lib.Ieee.{binary64, ofBits};
 ghost use Rattle.sphericalpoint.specs.Sqrt.{sqrtOf};
 ghost use Rattle.sphericalpoint.specs.RootStep.{WholeRoot, Step, significandOf};
 
 // 2^52: the leading one of a normal significand, and the weight of the exponent's field.
 const LEADING_ONE: u64 = 0x10_0000_0000_0000;
+
+// The pattern of 1, and those 2^20 places below it and above it.
+const ONE: u64 = 0x3ff0_0000_0000_0000;
+
+const NEAR_BELOW: u64 = 0x3fef_ffff_fff0_0000;
+
+const NEAR_ABOVE: u64 = 0x3ff0_0000_0010_0000;
 
 // The pattern of the infinity above zero: those of the finite numbers above zero are less.
 const INFINITY: u64 = 0x7ff0_0000_0000_0000;
@@ -108,6 +115,21 @@ fn root_bits(b: u64) -> u64
     (f / 2 - 26) * LEADING_ONE + (r + 1) / 2
 }
 
+// The same, with a short way near 1, where the squared length of a unit vector lies. k places from 1 the root is k / 2 places from it,
+// and lower by less than half a place: so its pattern is the mean of the two patterns, rounded down.
+fn root_pattern(b: u64) -> u64
+    requires { ⌜ (1 ≤ b) × (b < 0x7ff0_0000_0000_0000) ⌝ }
+    ensures { λ r. ⌜ (r < 0x7ff0_0000_0000_0000) × (ofBits binary64 r ≡ sqrtOf (ofBits binary64 b)) ⌝ }
+{
+    if b < NEAR_BELOW {
+        return root_bits(b);
+    }
+    if b > NEAR_ABOVE {
+        return root_bits(b);
+    }
+    (b + ONE) / 2
+}
+
 // √x, rounded once. A zero keeps its sign, the infinity above zero is its own root, and a NaN or a number below zero
 // has a NaN.
 pub fn sqrt(x: f64) -> f64
@@ -116,7 +138,7 @@ pub fn sqrt(x: f64) -> f64
     if x > 0.0 {
         let b = f64::to_bits(x);
         if b < INFINITY {
-            return f64::from_bits(root_bits(b));
+            return f64::from_bits(root_pattern(b));
         }
         return x;
     }

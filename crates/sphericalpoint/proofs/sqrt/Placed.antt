@@ -72,11 +72,16 @@ module _ {m e : ℕ} (p : Parts m e) where
   shift-is : top .0 + shift m ≡ 52
   shift-is = omega (arith, top .1, top-lt)
 
+  -- a significand that has its leading one stays where it is
+  pub full : 2 ^ 52 ≤ m → shift m ≡ 0
+  full l = let g : 52 < suc (top .0) = lt-of-pow-lt 52 (suc (top .0)) (lt-of-le-of-lt l (top .3)) in omega (arith, shift-is, g)
+
   pub shift-le : shift m ≤ 52
   shift-le = omega (arith, shift-is)
 
   shifted-ge : 2 ^ 52 ≤ m * 2 ^ shift m
-  shifted-ge = subst (λ (x : ℕ). x ≤ m * 2 ^ shift m) (sym (pow-add 2 (top .0) (shift m)) ∙ ap (λ (x : ℕ). 2 ^ x) shift-is) (mul-le-mul-right (2 ^ shift m) (top .2))
+  shifted-ge =
+      subst (λ (x : ℕ). x ≤ m * 2 ^ shift m) (sym (pow-add 2 (top .0) (shift m)) ∙ ap (λ (x : ℕ). 2 ^ x) shift-is) (mul-le-mul-right (2 ^ shift m) (top .2))
 
   shifted-lt : m * 2 ^ shift m < 2 ^ 53
   shifted-lt =
@@ -139,7 +144,9 @@ module _ {m e : ℕ} (p : Parts m e) where
     pub root54-lt : r < 2 ^ 54 - 1
     root54-lt =
         root-lt (2 ^ 54 - 1) h
-        (lt-of-le-of-lt (mul-le-mul-right {m = placed m e} {n = 2 ^ 54 - 2} (2 ^ 54) placed-le) (lit< {m = (2 ^ 54 - 2) * 2 ^ 54} {n = (2 ^ 54 - 1) * (2 ^ 54 - 1)} tt))
+        (lt-of-le-of-lt
+        (mul-le-mul-right {m = placed m e} {n = 2 ^ 54 - 2} (2 ^ 54) placed-le)
+        (lit< {m = (2 ^ 54 - 2) * 2 ^ 54} {n = (2 ^ 54 - 1) * (2 ^ 54 - 1)} tt))
 
     root53-ge : 2 ^ 52 ≤ half r
     root53-ge = omega (arith, root54-ge)

@@ -1,4 +1,4 @@
--- `sqrt` meets its contract: each need is a fact of `Edges`, or what `root_bits` promises. Assumes nothing.
+-- `sqrt` meets its contract: each need is a fact of `Edges`, or what `root_pattern` promises. Assumes nothing.
 use mathlib.Core.Path.{_∙_, ap, sym, subst}
 use lib.Dec.{T}
 use lib.Ieee.{binary64, fits}
@@ -15,18 +15,18 @@ held c = subst T (sym (c .good .0 .1)) tt
 float-to-bits-b : tie.Need-float-to-bits-b
 float-to-bits-b c = is-no-nan (c .before .args .x) (c .if1 .taken)
 
-root-bits-requires : tie.Need-root-bits-requires
-root-bits-requires c κs =
+root-pattern-requires : tie.Need-root-pattern-requires
+root-pattern-requires c κs =
     let a = c .before .before in
     (bits-pos (a .args .x) (held a) (c .before .if1 .taken), c .if2 .taken)
 
 float-from-bits-result : tie.Need-float-from-bits-result
-float-from-bits-result c = no-nan-bits (c .root-bits .result) (c .root-bits .ensures .0)
+float-from-bits-result c = no-nan-bits (c .root-pattern .result) (c .root-pattern .ensures .0)
 
 returns : tie.Need-returns
 returns c =
     let a = c .before .before .before in
-    c .root-bits .ensures .1 ∙ ap sqrtOf (ofBits-toBits binary64 (a .args .x) (held a))
+    c .root-pattern .ensures .1 ∙ ap sqrtOf (ofBits-toBits binary64 (a .args .x) (held a))
 
 returns-2 : tie.Need-returns-2
 returns-2 c =
@@ -40,4 +40,4 @@ returns-4 : tie.Need-returns-4
 returns-4 c = neither (c .before .before .args .x) (c .before .if1 .left) (c .if3 .left)
 
 pub sqrt-spec : {M : Type 1} → statement M
-sqrt-spec = tie.close (tie.spec float-to-bits-b root-bits-requires float-from-bits-result returns returns-2 returns-3 returns-4)
+sqrt-spec = tie.close (tie.spec float-to-bits-b root-pattern-requires float-from-bits-result returns returns-2 returns-3 returns-4)
