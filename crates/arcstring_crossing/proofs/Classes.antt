@@ -79,7 +79,3 @@ pub planes-class : (a b : Plane) (t : SphericalPoint) (s : List Float) → a ≡
     → classAt t (planeLeg a) (planeLeg b) s ≡ pairOf (planeLeg a) (planeLeg b)
 planes-class a b t s p q h k =
     by-planes (planeLeg a) (planeLeg b) t s (h ∙ ap₂ (λ (x y : Plane). xyzCross (x .normal) (y .normal)) p q) (k ∙ ap₂ (λ (x y : Plane). planeSides x y t) p q)
-
--- a pair that the code tested, of a leg's plane and another leg
-pub tested-pair : (a b : Plane) (x : Leg) (p : Pair) → b ≡ planeOf x → p ≡ pairOf (planeLeg a) (planeLeg b) → p ≡ pairOf (planeLeg a) x
-tested-pair a b x p h k = k ∙ ap (pairOf (planeLeg a)) (plane-leg b x h)

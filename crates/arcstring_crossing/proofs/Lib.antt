@@ -15,6 +15,10 @@ mod LegLists
 mod AcceptedAgain
 mod SamePairs
 mod Classes
+mod Aparts
+mod KeptPlanes
+mod Sifted
+mod Walks
 mod Listings
 mod Marks
 mod Rows

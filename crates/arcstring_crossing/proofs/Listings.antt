@@ -1,6 +1,6 @@
 -- What a listing call answers and leaves in its two buffers, where a check refuses, where there is no room, and where it is written. Assumes nothing.
 use mathlib.Core.Path.{_≡_, refl, sym, ap, ap₂, _∙_}
-use mathlib.Core.List.{List, _++_, map, map-map}
+use mathlib.Core.List.{List, [], _++_, map, map-map}
 use Prim.Native.Nat.{ℕ, _+_, _*_, _≤_}
 use native.Mathlib.Omega.{arith}
 use lib.ListN.{length, take, drop, length-map}
@@ -11,15 +11,15 @@ use Rattle.sphericalpoint.specs.Point.{normalizedUnlessShort}
 use Rattle.arcstring.specs.declared.check.Refusal.{Refusal}
 use Rattle.arcstring.specs.declared.check.Checked.{Checked}
 use Rattle.arcstring.specs.declared.check.Checked.the-variants.{Accepted, Refused}
-use Rattle.arcstring.specs.Answer.{Answer, refused, answered, firstOf, leaves, refusalNumber}
+use Rattle.arcstring.specs.Answer.{Answer, refused, answered, unlessRefused, firstOf, leaves, refusalNumber}
 use Rattle.arcstring.specs.Points.{points, flat}
 use Rattle.arcstring.specs.Splice.{splice}
 use Rattle.arcstring.specs.Check.{checkNumber, roomCheck}
 use Rattle.arcstring.specs.Build.{normalizedAll}
-use Rattle.arcstring.proofs.Answers.{answer-refused-first, answer-accepted-first, first-passes, second-passes}
+use Rattle.arcstring.proofs.Answers.{pass, answer-refused-first, answer-accepted-first, first-passes, second-passes}
 use Rattle.arcstring.proofs.Flat.{points-flat, length-flat}
-use Rattle.arcstring.proofs.Rooms.{room-fits}
-use Rattle.arcstring.proofs.Splices.{splice-start, splice-front}
+use Rattle.arcstring.proofs.Rooms.{room-fits, room-enough}
+use Rattle.arcstring.proofs.Splices.{splice-start, splice-front, splice-nothing}
 use Rattle.arcstring_crossing.specs.declared.crossing.Pair.{Pair}
 use Rattle.arcstring_crossing.specs.declared.listing.Counts.{Counts}
 use Rattle.arcstring_crossing.specs.declared.tally.Tally.{Tally}
@@ -37,6 +37,9 @@ Leaves x r points points' marks marks' = (r ≡ listedResult x) × ((points' ≡
 pub refused-leaves : (n : ℕ) (x : Answer Listing) (points : List Float) (marks : List ℕ) → refused n ≡ x → Leaves x (refused n) points points marks marks
 refused-leaves n x points marks h =
     (ap listedResult h, (ap (λ (y : Answer Listing). leaves (listedFloats y) points) h, ap (λ (y : Answer Listing). leaves (listedBytes y) marks) h))
+
+pub leaves-as : (x y : Answer Listing) (r : Answer (ℕ × Counts)) (points points' : List Float) (marks marks' : List ℕ) → x ≡ y → Leaves x r points points' marks marks' → Leaves y r points points' marks marks'
+leaves-as x y r points points' marks marks' h l = rw h at l
 
 written-leaves : (l : Listing) (x : Answer Listing) (kept : ℕ) (c : Counts) (points points' : List Float) (marks marks' : List ℕ) → answered l ≡ x → kept ≡ length (l .marks) → c ≡ l .counts
     → points' ≡ splice points 0 (flat (map markPoint (l .marks))) → marks' ≡ splice marks 0 (map markByte (l .marks)) → Leaves x (answered (kept, c)) points points' marks marks'
@@ -77,6 +80,27 @@ normalized-in-place ps n old mid last h first second =
     let d : drop (3 * n) mid ≡ drop (3 * n) old = ap (drop (3 * n)) m ∙ drop-at (flat qs) (drop (3 * n) old) (3 * n) e in
     let k : length (flat (normalizedAll qs)) ≡ 3 * n = length-flat (normalizedAll qs) ∙ ap (λ (j : ℕ). 3 * j) (length-map qs normalizedUnlessShort ∙ c) in
     second ∙ ap₂ (λ (rs : List SphericalPoint) (r : List Float). flat (normalizedAll rs) ++ r) t d ∙ sym (splice-front old (3 * n) (flat (normalizedAll qs)) k)
+
+pub none-normalized : (ps : List Pair) (points : List Float) (marks : List ℕ) → keptMarks ps ≡ []
+    → (points ≡ splice points 0 (flat (normalizedAll (map markPoint (keptMarks ps))))) × (marks ≡ splice marks 0 (map markByte (keptMarks ps)))
+none-normalized ps points marks h = rw h (sym (splice-nothing points 0), sym (splice-nothing marks 0))
+
+-- ---- where there is room in any case, one walk counts and writes
+
+pub fitting-leaves : (ps : List Pair) (l : Listing) (lists : Lists ps l) (t : Tally) (c : Counts) (x : Answer Listing) (points points' : List Float) (marks marks' : List ℕ) → t ≡ tallyOn noTally ps
+    → (3 * length (keptMarks ps) ≤ length points) × (length (keptMarks ps) ≤ length marks) → inRoom l (length points) (length marks) ≡ x → c ≡ tallyCounts t
+    → points' ≡ splice points 0 (flat (map markPoint (l .marks))) → marks' ≡ splice marks 0 (map markByte (l .marks)) → Leaves x (answered (t .kept, c)) points points' marks marks'
+unfolding inRoom
+fitting-leaves ps l lists t c x points points' marks marks' count room h hc hp hm =
+    let e = lists .as-many in
+    written-leaves l x (t .kept) c points points' marks marks'
+    (sym (pass (roomCheck (3 * length (l .marks)) (length points)) (unlessRefused (roomCheck (length (l .marks)) (length marks)) (answered l)) (room-enough (3 * length (l .marks)) (length points) (omega arith))
+    ∙ pass (roomCheck (length (l .marks)) (length marks)) (answered l) (room-enough (length (l .marks)) (length marks) (omega arith)))
+    ∙ h)
+    (tally-kept t ps count ∙ sym e)
+    (hc ∙ tally-counts t ps count ∙ sym (lists .same-counts))
+    hp
+    hm
 
 -- ---- the room check, and what follows
 

@@ -84,18 +84,13 @@ module _ (ps : List Pair) (at : ℕ) (points : List Float) (marks : List ℕ) wh
 
 -- ---- pairs after pairs
 
-nothing-of : (ms : List Mark) → length ms ≡ 0 → ms ≡ []
+pub nothing-of : (ms : List Mark) → length ms ≡ 0 → ms ≡ []
 nothing-of [] h = refl
 nothing-of (m ∷ ms) h = absurd (omega arith)
 
 pub none-keeps-none : (ps : List Pair) → ps ≡ [] → length (keptMarks ps) ≡ 0
 unfolding keptMarks filterMap
 none-keeps-none ps h = ap (λ (l : List Pair). length (keptMarks l)) h
-
--- where as many are written as all pairs keep, the others keep none
-pub none-left : (all : List Pair) (points : List Float) (marks : List ℕ) (rest : List Pair) (next : ℕ) (points' : List Float) (marks' : List ℕ)
-    → WritesSame all 0 points marks rest next points' marks' → next ≡ length (keptMarks all) → length (keptMarks rest) ≡ 0
-none-left all points marks rest next points' marks' w h = omega (arith, w .same-place)
 
 pub nothing-written : (ps : List Pair) (at : ℕ) (points : List Float) (marks : List ℕ) → WritesSame ps at points marks ps at points marks
 nothing-written ps at points marks = record { same-place = refl; same-points = refl; same-marks = refl; points-length = refl; marks-length = refl }

@@ -1,5 +1,6 @@
 -- The pairs that a walk over legs visits, one after the other: what is still to be visited from a position on, and how many pairs there are. Assumes nothing.
-use mathlib.Core.Path.{_≡_, sym, ap, _∙_}
+use mathlib.Core.Path.{_≡_, refl, sym, ap, _∙_}
+use mathlib.Core.Bool.{Bool, true, false}
 use mathlib.Core.List.{List, [], _∷_, _++_, map}
 use Prim.Native.Nat.{ℕ, suc, _+_, _-_, _*_, _<_, _≤_}
 use native.Mathlib.Nat.{zero-mul, suc-mul, mul-suc, le-trans, mul-le-mul-left, mul-le-mul-right}
@@ -8,9 +9,11 @@ use lib.ListN.{length, drop, length-append, length-map, length-drop}
 use lib.Ieee.{Float}
 use Rattle.arcstring_crossing.specs.declared.crossing.Pair.{Pair}
 use Rattle.arcstring_crossing.specs.Crossing.{Leg, pairOf}
-use Rattle.arcstring_crossing.specs.Listing.{pairsBetween, pairsWithin}
-use Rattle.arcstring_crossing.specs.Tally.{legAt, legsFrom, rowPairs}
+use Rattle.arcstring_crossing.specs.Listing.{pairsBetween, pairsWithin, keptMarks}
+use Rattle.arcstring.specs.Answer.{pick}
+use Rattle.arcstring_crossing.specs.Tally.{legAt, legsFrom, rowPairs, rowStart, visitsFrom}
 use Rattle.arcstring_crossing.proofs.Legs.{legs-step, legs-none, legs-tail, legs-few}
+use Rattle.arcstring_crossing.proofs.Tallies.{kept-bound}
 
 -- ---- one more: with the leg at a position, as the code has it
 
@@ -67,7 +70,7 @@ length-within (a ∷ ls) =
     omega
     (arith, length-append (map (pairOf a) (drop 1 ls)) (pairsWithin ls), length-map (drop 1 ls) (pairOf a), length-drop 1 ls, length-within ls, suc-mul (length ls) (suc (length ls)), mul-suc (length ls) (length ls))
 
-product-small : (i j : ℕ) → i ≤ 1024 → j ≤ 1024 → i * j ≤ 1048576
+pub product-small : (i j : ℕ) → i ≤ 1024 → j ≤ 1024 → i * j ≤ 1048576
 product-small i j h l = le-trans (mul-le-mul-right j h) (mul-le-mul-left 1024 l)
 
 pub between-few : (a b : List Float) (la lb : ℕ) → la ≤ 1024 → lb ≤ 1024 → length (pairsBetween (legsFrom a 0 la) (legsFrom b 0 lb)) ≤ 1048576
@@ -79,3 +82,42 @@ pub within-few : (v : List Float) (to : ℕ) → to ≤ 1024 → length (pairsWi
 within-few v to h =
     let s : length (legsFrom v 0 to) ≤ 1024 = omega (arith, legs-few v 0 to) in
     le-trans (length-within (legsFrom v 0 to)) (product-small (length (legsFrom v 0 to)) (length (legsFrom v 0 to)) s s)
+
+-- the pairs of so many legs with so many keep at most as many points
+pub kept-between : (a b : List Float) (la lb : ℕ) → length (keptMarks (pairsBetween (legsFrom a 0 la) (legsFrom b 0 lb))) ≤ la * lb
+kept-between a b la lb =
+    let h : length (legsFrom a 0 la) ≤ la = omega (arith, legs-few a 0 la) in
+    let l : length (legsFrom b 0 lb) ≤ lb = omega (arith, legs-few b 0 lb) in
+    let ps = pairsBetween (legsFrom a 0 la) (legsFrom b 0 lb) in
+    le-trans (kept-bound ps)
+    (rw (length-between (legsFrom a 0 la) (legsFrom b 0 lb)) (le-trans (mul-le-mul-right (length (legsFrom b 0 lb)) h) (mul-le-mul-left la l)))
+
+-- ---- within one string or between two
+
+module _ (within : Bool) (a : List Float) (n : ℕ) (whole : length a ≡ 3 * n) (la : ℕ) (short : la ≤ n) (b : List Float) (lb : ℕ) where
+  pub visits-next : (x : Leg) (i from : ℕ) → (within ≡ true → (a ≡ b) × (la ≡ lb)) → i < la → x ≡ legAt a n i → from ≡ rowStart within i
+      → visitsFrom within a i la b lb ≡ rowPairs x b from lb ++ visitsFrom within a (i + 1) la b lb
+  unfolding visitsFrom rowStart
+  visits-next x i from same h hx hf = go within same hf
+    where
+      go : (w : Bool) → (w ≡ true → (a ≡ b) × (la ≡ lb)) → from ≡ pick w (i + 2) 0
+          → pick w (pairsWithin (legsFrom a i la)) (pairsBetween (legsFrom a i la) (legsFrom b 0 lb))
+          ≡ rowPairs x b from lb ++ pick w (pairsWithin (legsFrom a (i + 1) la)) (pairsBetween (legsFrom a (i + 1) la) (legsFrom b 0 lb))
+      go true s e = let t = s refl in rw (e, ← t .0, ← t .1) (within-next a n whole x i la h short hx)
+      go false s e = rw e (between-next a n whole x b lb i la h short hx)
+
+  pub visits-none : (i : ℕ) → la ≤ i → visitsFrom within a i la b lb ≡ []
+  unfolding visitsFrom
+  visits-none i h = go within
+    where
+      go : (w : Bool) → pick w (pairsWithin (legsFrom a i la)) (pairsBetween (legsFrom a i la) (legsFrom b 0 lb)) ≡ []
+      go true = within-none a i la h
+      go false = between-none a (legsFrom b 0 lb) i la h
+
+  pub visits-few : la ≤ 1024 → lb ≤ 1024 → length (visitsFrom within a 0 la b lb) ≤ 1048576
+  unfolding visitsFrom
+  visits-few h l = go within
+    where
+      go : (w : Bool) → length (pick w (pairsWithin (legsFrom a 0 la)) (pairsBetween (legsFrom a 0 la) (legsFrom b 0 lb))) ≤ 1048576
+      go true = within-few a la h
+      go false = between-few a b la lb h l

@@ -75,6 +75,30 @@ positive-of-other (fin true m e) h = refl
 positive-of-other (fin false zero e) h = no (sym h ∙ zero-level false e)
 positive-of-other (fin false (suc m) e) h = lt-ltb (0 * down e) (suc m * up e * 1) (omega (arith, zero-mul (down e), scaled-pos m e))
 
+-- what is above zero or below it is no zero
+no-zero : (s : Bool) (m : ℕ) (e : ℤ) → eq (fin s (suc m) e) zero64 ≡ false
+no-zero s m e = go (eq (fin s (suc m) e) zero64) refl
+  where
+    go : (b : Bool) → eq (fin s (suc m) e) zero64 ≡ b → b ≡ false
+    go true h = absurd (zero-only s m e h)
+    go false h = refl
+
+pub above-is-no-zero : (x : Float) → lt zero64 x ≡ true → eq x zero64 ≡ false
+unfolding lt eq ofBits
+above-is-no-zero nan h = no h
+above-is-no-zero (inf s) h = refl
+above-is-no-zero (fin true zero e) h = no h
+above-is-no-zero (fin false zero e) h = no (sym (le-ltb (0 * down e) (0 * up e * 1) (omega (arith, zero-mul (up e)))) ∙ h)
+above-is-no-zero (fin s (suc m) e) h = no-zero s m e
+
+pub below-is-no-zero : (x : Float) → lt x zero64 ≡ true → eq x zero64 ≡ false
+unfolding lt eq ofBits
+below-is-no-zero nan h = no h
+below-is-no-zero (inf s) h = refl
+below-is-no-zero (fin true zero e) h = no (sym (le-ltb 0 (0 * up e * 1 + 0 * down e) (omega (arith, zero-mul (up e), zero-mul (down e)))) ∙ h)
+below-is-no-zero (fin false zero e) h = no (sym (le-ltb (0 * up e * 1) (0 * down e) (omega (arith, zero-mul (up e)))) ∙ h)
+below-is-no-zero (fin s (suc m) e) h = no-zero s m e
+
 -- ---- four side values
 
 and-four : (a b c d : Bool) → (((a && b) && c) && d) ≡ (a && (b && (c && (d && true))))

@@ -1,7 +1,11 @@
 // The class of a pair of legs: document 01's, over the source's `arcs_crossing`.
 ghost use mathlib.Core.Path.{_≡_};
+ghost use mathlib.Core.Bool.{true};
+ghost use lib.Ieee.{neg, lt};
+ghost use Rattle.sphericalpoint.specs.Vector.{xyzNeg};
+ghost use Rattle.arcstring.specs.Answer.{pick};
 ghost use Rattle.arcstring.specs.Check.{checkNumber};
-ghost use Rattle.arcstring_crossing.specs.Plane.{planeLeg, planeOf, planeSides};
+ghost use Rattle.arcstring_crossing.specs.Plane.{planeLeg, planeOf, planeSides, showsApart};
 ghost use Rattle.arcstring_crossing.specs.Crossing.{leg, legOf, grazes, isAbove, isBelow, signNegative, signPositive, someSide, everySide, atEnd, keptOrDropped, grazingOutcome, endOrClean, classAt, pairOf, legCheck, arcsCrossing, crossedAnswer};
 use arcstring::check;
 use arcstring::check::Checked;
@@ -221,8 +225,60 @@ fn end_or_clean(
     }
 }
 
+// A float or its negative.
+fn signed(x: f64, keep: bool) -> f64
+    ensures { λ r. ⌜ r ≡ pick keep x (neg x) ⌝ }
+{
+    if keep { x } else { -x }
+}
+
+// A point or its negative, with no branch.
+fn turned(t: SphericalPoint, keep: bool) -> SphericalPoint
+    ensures { λ r. ⌜ r ≡ pick keep t (xyzNeg t) ⌝ }
+{
+    SphericalPoint {
+        x: signed(t.x, keep),
+        y: signed(t.y, keep),
+        z: signed(t.z, keep),
+    }
+}
+
+// The greater of two floats, with no branch.
+fn greater(x: f64, y: f64) -> f64
+    ensures { λ r. ⌜ r ≡ pick (lt y x) x y ⌝ }
+{
+    if x > y { x } else { y }
+}
+
+// The smaller of two floats, with no branch.
+fn smaller(x: f64, y: f64) -> f64
+    ensures { λ r. ⌜ r ≡ pick (lt x y) x y ⌝ }
+{
+    if x < y { x } else { y }
+}
+
+fn some_above(s: [f64; 4]) -> bool
+    ensures { λ r. ⌜ (r ≡ true → someSide isAbove s ≡ true) ⌝ }
+{
+    greater(greater(s[0], s[1]), greater(s[2], s[3])) > 0.0
+}
+
+fn some_below(s: [f64; 4]) -> bool
+    ensures { λ r. ⌜ (r ≡ true → someSide isBelow s ≡ true) ⌝ }
+{
+    smaller(smaller(s[0], s[1]), smaller(s[2], s[3])) < 0.0
+}
+
+// Whether the four side values show that a pair is apart: none grazes, some is above zero and some below. With no
+// branch, for a pass over many pairs. It may miss such a pair, which is then tested as any other.
+pub(crate) fn shows_apart(s: [f64; 4]) -> bool
+    ensures { λ r. ⌜ (r ≡ true → showsApart s ≡ true) ⌝ }
+{
+    !some_grazing(s) & some_above(s) & some_below(s)
+}
+
 // The class by the four side values.
-fn class_at(
+pub(crate) fn class_at(
     t: SphericalPoint,
     a0: SphericalPoint,
     a1: SphericalPoint,
@@ -235,11 +291,9 @@ fn class_at(
     if some_grazing(s) {
         return Pair::Grazing(grazing_outcome(t, a0, a1, b0, b1, s));
     }
-    if all_above(s) {
-        return end_or_clean(t, a0, a1, b0, b1);
-    }
-    if all_below(s) {
-        return end_or_clean(sphericalpoint::xyz_neg(t), a0, a1, b0, b1);
+    let above = all_above(s);
+    if above | all_below(s) {
+        return end_or_clean(turned(t, above), a0, a1, b0, b1);
     }
     Pair::Apart
 }

@@ -2,7 +2,7 @@
 // points are the source's, each with a mark byte: 1 clean, 0 grazing. `tally_two`, with its `requires`, is for the crates
 // of the string layer, not for users.
 ghost use mathlib.Core.Path.{_≡_};
-ghost use mathlib.Core.Bool.{false};
+ghost use mathlib.Core.Bool.{true, false};
 ghost use mathlib.Core.List.{map};
 ghost use Prim.Native.Nat.{_*_, _≤_};
 ghost use lib.ListN.{length};
@@ -12,13 +12,14 @@ ghost use Rattle.arcstring.specs.Splice.{splice};
 ghost use Rattle.arcstring.specs.Check.{checkNumber, storedCheck, roomCheck};
 ghost use Rattle.arcstring.specs.Build.{normalizedAll};
 ghost use Rattle.arcstring.specs.Point.{decidedAnswer};
-ghost use Rattle.arcstring_crossing.specs.Crossing.{leg, legOf};
-ghost use Rattle.arcstring_crossing.specs.Listing.{keptMarks, markPoint, markByte, visited, legPairs, selfPairs, counted, legCrossings, selfCrossings, crossesSelf, sameSide, countedAnswer, listedAnswer, listedResult, listedFloats, listedBytes};
+ghost use Rattle.arcstring_crossing.specs.Crossing.{leg, legOf, legCheck};
+ghost use Rattle.arcstring_crossing.specs.Listing.{keptMarks, markPoint, markByte, listingOf, inRoom, visited, legPairs, selfPairs, counted, legCrossings, selfCrossings, crossesSelf, sameSide, countedAnswer, listedAnswer, listedResult, listedFloats, listedBytes};
 ghost use Rattle.arcstring_crossing.specs.Listing as Listing;
-ghost use Rattle.arcstring_crossing.specs.Tally.{noTally, tallyOn};
+ghost use Rattle.arcstring_crossing.specs.Tally.{noTally, tallyOn, legFloats};
 use crate::crossing;
 use crate::tally;
 use crate::tally::Tally;
+use crate::walk;
 use arcstring::build;
 use arcstring::check;
 use arcstring::check::Checked;
@@ -52,7 +53,7 @@ pub fn tally_two(a: &[f64], a_closed: bool, b: &[f64], b_closed: bool) -> Tally
 {
     let na = a.len() / 3;
     let nb = b.len() / 3;
-    tally::count_between(
+    walk::count_between(
         a,
         na,
         tally::leg_count(na, a_closed),
@@ -62,8 +63,31 @@ pub fn tally_two(a: &[f64], a_closed: bool, b: &[f64], b_closed: bool) -> Tally
     )
 }
 
-// What the pairs of two accepted strings keep, written.
-fn list_two(
+// The pairs of two accepted strings, counted, and what they keep written.
+fn visit_two(
+    a: &[f64],
+    a_closed: bool,
+    b: &[f64],
+    b_closed: bool,
+    points: &mut [f64],
+    marks: &mut [u8],
+) -> Tally
+    requires { ⌜ (storedCheck (now a) ≡ 0) × (storedCheck (now b) ≡ 0) ⌝ }
+    requires { ⌜ 3 * length (keptMarks (visited (now a) «a_closed» (now b) «b_closed»)) ≤ length (now points) ⌝ }
+    requires { ⌜ length (keptMarks (visited (now a) «a_closed» (now b) «b_closed»)) ≤ length (now marks) ⌝ }
+    ensures { λ r. ⌜ r ≡ tallyOn noTally (visited (now (a .entry)) «a_closed» (now (b .entry)) «b_closed») ⌝ }
+    ensures { λ _. ⌜ now (points .exit) ≡ splice (now (points .entry)) 0 (flat (map markPoint (keptMarks (visited (now (a .entry)) «a_closed» (now (b .entry)) «b_closed»)))) ⌝ }
+    ensures { λ _. ⌜ now (marks .exit) ≡ splice (now (marks .entry)) 0 (map markByte (keptMarks (visited (now (a .entry)) «a_closed» (now (b .entry)) «b_closed»))) ⌝ }
+{
+    let na = a.len() / 3;
+    let nb = b.len() / 3;
+    let la = tally::leg_count(na, a_closed);
+    let lb = tally::leg_count(nb, b_closed);
+    walk::visit(a, na, la, b, nb, lb, false, true, points, marks)
+}
+
+// What the pairs of two accepted strings keep, written. Where they keep nothing there is no walk.
+fn write_two(
     a: &[f64],
     a_closed: bool,
     b: &[f64],
@@ -78,19 +102,29 @@ fn list_two(
     ensures { λ _. ⌜ now (points .exit) ≡ splice (now (points .entry)) 0 (flat (map markPoint (keptMarks (visited (now (a .entry)) «a_closed» (now (b .entry)) «b_closed»)))) ⌝ }
     ensures { λ _. ⌜ now (marks .exit) ≡ splice (now (marks .entry)) 0 (map markByte (keptMarks (visited (now (a .entry)) «a_closed» (now (b .entry)) «b_closed»))) ⌝ }
 {
-    let na = a.len() / 3;
-    let nb = b.len() / 3;
-    tally::list_between(
-        a,
-        na,
-        tally::leg_count(na, a_closed),
-        b,
-        nb,
-        tally::leg_count(nb, b_closed),
-        kept,
-        points,
-        marks,
-    );
+    if kept == 0 {
+        return;
+    }
+    let t = visit_two(a, a_closed, b, b_closed, points, marks);
+}
+
+// Whether buffers of so many floats and so many bytes hold a point and a mark of every pair of two accepted strings.
+fn holds_all(
+    a: &[f64],
+    a_closed: bool,
+    b: &[f64],
+    b_closed: bool,
+    points: usize,
+    marks: usize,
+) -> bool
+    requires { ⌜ (storedCheck (now a) ≡ 0) × (storedCheck (now b) ≡ 0) ⌝ }
+    ensures { λ r. ⌜ (r ≡ true → (3 * length (keptMarks (visited (now (a .entry)) «a_closed» (now (b .entry)) «b_closed»)) ≤ points) × (length (keptMarks (visited (now (a .entry)) «a_closed» (now (b .entry)) «b_closed»)) ≤ marks)) ⌝ }
+{
+    let pairs = tally::leg_count(a.len() / 3, a_closed) * tally::leg_count(b.len() / 3, b_closed);
+    if 3 * pairs <= points {
+        return pairs <= marks;
+    }
+    false
 }
 
 // Whether so many kept points and their marks fit the buffers.
@@ -118,6 +152,34 @@ pub fn count(a: &[f64], a_closed: bool, b: &[f64], b_closed: bool) -> Counted
     }
 }
 
+// The kept points of the pairs of two accepted strings, their marks and the four counts. Where the buffers hold a point of
+// every pair one walk counts and writes; else the pairs are counted first, and what does not fit is refused by 7.
+fn list_two(
+    a: &[f64],
+    a_closed: bool,
+    b: &[f64],
+    b_closed: bool,
+    points: &mut [f64],
+    marks: &mut [u8],
+) -> Listed
+    requires { ⌜ (storedCheck (now a) ≡ 0) × (storedCheck (now b) ≡ 0) ⌝ }
+    ensures { λ r. ⌜ listedAnswer r ≡ listedResult (inRoom (listingOf (visited (now (a .entry)) «a_closed» (now (b .entry)) «b_closed»)) (length (now (points .entry))) (length (now (marks .entry)))) ⌝ }
+    ensures { λ _. ⌜ now (points .exit) ≡ leaves (listedFloats (inRoom (listingOf (visited (now (a .entry)) «a_closed» (now (b .entry)) «b_closed»)) (length (now (points .entry))) (length (now (marks .entry))))) (now (points .entry)) ⌝ }
+    ensures { λ _. ⌜ now (marks .exit) ≡ leaves (listedBytes (inRoom (listingOf (visited (now (a .entry)) «a_closed» (now (b .entry)) «b_closed»)) (length (now (points .entry))) (length (now (marks .entry))))) (now (marks .entry)) ⌝ }
+{
+    if holds_all(a, a_closed, b, b_closed, points.len(), marks.len()) {
+        let t = visit_two(a, a_closed, b, b_closed, points, marks);
+        return Listed::Listing(t.kept, tally::counts_of(t));
+    }
+    let t = tally_two(a, a_closed, b, b_closed);
+    let room = check_buffers(t.kept, points.len(), marks.len());
+    if let Checked::Refused(e) = room {
+        return Listed::Refused(e);
+    }
+    write_two(a, a_closed, b, b_closed, t.kept, points, marks);
+    Listed::Listing(t.kept, tally::counts_of(t))
+}
+
 // The kept points of the same pairs, leg by leg of the first string, with their marks and the four counts.
 // Refuses by 1, 3 and 4 of the first string's vertices, then of the second's, and by 7.
 pub fn crossings(
@@ -136,29 +198,30 @@ pub fn crossings(
     if let Checked::Refused(e) = checked {
         return Listed::Refused(e);
     }
-    let t = tally_two(a, a_closed, b, b_closed);
-    let room = check_buffers(t.kept, points.len(), marks.len());
-    if let Checked::Refused(e) = room {
-        return Listed::Refused(e);
-    }
-    list_two(a, a_closed, b, b_closed, t.kept, points, marks);
-    Listed::Listing(t.kept, tally::counts_of(t))
+    list_two(a, a_closed, b, b_closed, points, marks)
+}
+
+// A leg as a string of two vertices.
+fn leg_string(arc: [[f64; 3]; 2]) -> [f64; 6]
+    ensures { λ r. ⌜ r ≡ legFloats (legOf arc) ⌝ }
+{
+    [
+        arc[0][0],
+        arc[0][1],
+        arc[0][2],
+        arc[1][0],
+        arc[1][1],
+        arc[1][2],
+    ]
 }
 
 // One leg against an accepted string, counted.
 fn tally_leg(arc: [[f64; 3]; 2], v: &[f64], closed: bool) -> Tally
-    requires { ⌜ storedCheck (now v) ≡ 0 ⌝ }
-    ensures { λ r. ⌜ (r ≡ tallyOn noTally (legPairs (legOf arc) (now (v .entry)) closed)) × (r .kept ≤ 1048576) ⌝ }
+    requires { ⌜ (legCheck (legOf arc) ≡ 0) × (storedCheck (now v) ≡ 0) ⌝ }
+    ensures { λ r. ⌜ r ≡ tallyOn noTally (legPairs (legOf arc) (now (v .entry)) closed) ⌝ }
 {
-    let n = v.len() / 3;
-    tally::count_row(
-        crossing::plane_of(arc),
-        v,
-        n,
-        0,
-        tally::leg_count(n, closed),
-        tally::none(),
-    )
+    let a = leg_string(arc);
+    tally_two(&a, false, v, closed)
 }
 
 // The kept points of one leg with every leg of a string, their marks and the four counts.
@@ -178,23 +241,8 @@ pub fn arc_crossings_with_arcstring(
     if let Checked::Refused(e) = checked {
         return Listed::Refused(e);
     }
-    let t = tally_leg(arc, v, closed);
-    let room = check_buffers(t.kept, points.len(), marks.len());
-    if let Checked::Refused(e) = room {
-        return Listed::Refused(e);
-    }
-    let n = v.len() / 3;
-    tally::list_row(
-        crossing::plane_of(arc),
-        v,
-        n,
-        0,
-        tally::leg_count(n, closed),
-        points,
-        marks,
-        0,
-    );
-    Listed::Listing(t.kept, tally::counts_of(t))
+    let a = leg_string(arc);
+    list_two(&a, false, v, closed, points, marks)
 }
 
 // Whether two points are on the same side of a string: the leg between them has an even number of kept points with
@@ -225,19 +273,51 @@ fn tally_self(v: &[f64], closed: bool) -> Tally
     ensures { λ r. ⌜ (r ≡ tallyOn noTally (selfPairs (now (v .entry)) closed)) × (r .kept ≤ 1048576) ⌝ }
 {
     let n = v.len() / 3;
-    tally::count_within(v, n, tally::leg_count(n, closed))
+    walk::count_within(v, n, tally::leg_count(n, closed))
 }
 
-// What an accepted string's pairs with itself keep, written and then normalised in place.
-fn list_self(v: &[f64], kept: usize, points: &mut [f64], marks: &mut [u8])
+// An accepted string's pairs with itself, counted, and what they keep written and then normalised in place.
+fn visit_self(v: &[f64], points: &mut [f64], marks: &mut [u8]) -> Tally
+    requires { ⌜ storedCheck (now v) ≡ 0 ⌝ }
+    requires { ⌜ (3 * length (keptMarks (selfPairs (now v) false)) ≤ length (now points)) × (length (keptMarks (selfPairs (now v) false)) ≤ length (now marks)) ⌝ }
+    ensures { λ r. ⌜ r ≡ tallyOn noTally (selfPairs (now (v .entry)) false) ⌝ }
+    ensures { λ _. ⌜ now (points .exit) ≡ splice (now (points .entry)) 0 (flat (normalizedAll (map markPoint (keptMarks (selfPairs (now (v .entry)) false))))) ⌝ }
+    ensures { λ _. ⌜ now (marks .exit) ≡ splice (now (marks .entry)) 0 (map markByte (keptMarks (selfPairs (now (v .entry)) false))) ⌝ }
+{
+    let n = v.len() / 3;
+    let t = walk::visit(v, n, n - 1, v, n, n - 1, true, true, points, marks);
+    build::normalize_points(points, t.kept);
+    t
+}
+
+// What an accepted string's pairs with itself keep, written and normalised. Where they keep nothing there is no walk.
+fn write_self(v: &[f64], kept: usize, points: &mut [f64], marks: &mut [u8])
     requires { ⌜ (storedCheck (now v) ≡ 0) × (kept ≡ length (keptMarks (selfPairs (now v) false))) ⌝ }
     requires { ⌜ (3 * kept ≤ length (now points)) × (kept ≤ length (now marks)) ⌝ }
     ensures { λ _. ⌜ now (points .exit) ≡ splice (now (points .entry)) 0 (flat (normalizedAll (map markPoint (keptMarks (selfPairs (now (v .entry)) false))))) ⌝ }
     ensures { λ _. ⌜ now (marks .exit) ≡ splice (now (marks .entry)) 0 (map markByte (keptMarks (selfPairs (now (v .entry)) false))) ⌝ }
 {
+    if kept == 0 {
+        return;
+    }
+    let t = visit_self(v, points, marks);
+}
+
+// Whether buffers of so many floats and so many bytes hold a point and a mark of every pair of an accepted string with
+// itself.
+fn holds_self(v: &[f64], points: usize, marks: usize) -> bool
+    requires { ⌜ storedCheck (now v) ≡ 0 ⌝ }
+    ensures { λ r. ⌜ (r ≡ true → (3 * length (keptMarks (selfPairs (now (v .entry)) false)) ≤ points) × (length (keptMarks (selfPairs (now (v .entry)) false)) ≤ marks)) ⌝ }
+{
     let n = v.len() / 3;
-    tally::list_within(v, n, n - 1, kept, points, marks);
-    build::normalize_points(points, kept);
+    if n < 4 {
+        return true;
+    }
+    let pairs = (n - 2) * (n - 3) / 2;
+    if 3 * pairs <= points {
+        return pairs <= marks;
+    }
+    false
 }
 
 // The kept points of a string with itself, normalised, their marks and the four counts: legs i and j with
@@ -252,12 +332,16 @@ pub fn crossings_with_self(v: &[f64], points: &mut [f64], marks: &mut [u8]) -> L
     if let Checked::Refused(e) = checked {
         return Listed::Refused(e);
     }
+    if holds_self(v, points.len(), marks.len()) {
+        let t = visit_self(v, points, marks);
+        return Listed::Listing(t.kept, tally::counts_of(t));
+    }
     let t = tally_self(v, false);
     let room = check_buffers(t.kept, points.len(), marks.len());
     if let Checked::Refused(e) = room {
         return Listed::Refused(e);
     }
-    list_self(v, t.kept, points, marks);
+    write_self(v, t.kept, points, marks);
     Listed::Listing(t.kept, tally::counts_of(t))
 }
 

@@ -2,14 +2,14 @@
 ghost use mathlib.Core.Path.{_≡_};
 ghost use mathlib.Core.List.{_∷_, [], map};
 ghost use Prim.Native.Nat.{_+_, _-_, _*_, _≤_, _<_};
-ghost use lib.ListN.{length};
-ghost use Rattle.arcstring.specs.Points.{pointAt, points, flat};
+ghost use lib.ListN.{length, replicate};
+ghost use Rattle.arcstring.specs.Points.{pointAt, flat};
 ghost use Rattle.arcstring.specs.Splice.{splice};
 ghost use Rattle.arcstring_crossing.specs.Crossing.{leg, legOf};
-ghost use Rattle.arcstring_crossing.specs.Plane.{planeLeg, planeOf};
-ghost use Rattle.arcstring_crossing.specs.declared.crossing.Pair.the-variants.{Grazing};
-ghost use Rattle.arcstring_crossing.specs.Listing.{legs, pairsBetween, pairsWithin, keptMarks, markPoint, markByte};
-ghost use Rattle.arcstring_crossing.specs.Tally.{noTally, tallyOn, tallyCounts, tallySum, legAt, legsFrom, legCount, rowPairs};
+ghost use Rattle.arcstring_crossing.specs.Plane.{planeOf};
+ghost use Rattle.arcstring_crossing.specs.declared.crossing.Pair.the-variants.{Grazing, Apart};
+ghost use Rattle.arcstring_crossing.specs.Listing.{keptMarks, markPoint, markByte};
+ghost use Rattle.arcstring_crossing.specs.Tally.{noTally, tallyOn, tallyCounts, tallySum, legAt, legCount, RoomIf, WrittenIf};
 use crate::crossing;
 use crate::crossing::Outcome;
 use crate::crossing::Pair;
@@ -81,7 +81,7 @@ pub fn leg_at(v: &[f64], n: usize, k: usize) -> [[f64; 3]; 2]
 }
 
 // What the pair test takes of leg k.
-fn leg_plane(v: &[f64], n: usize, k: usize) -> Plane
+pub(crate) fn leg_plane(v: &[f64], n: usize, k: usize) -> Plane
     requires { ⌜ (length (now v) ≡ 3 * n) × (k < n) ⌝ }
     ensures { λ r. ⌜ r ≡ planeOf (legAt (now (v .entry)) n k) ⌝ }
 {
@@ -89,7 +89,7 @@ fn leg_plane(v: &[f64], n: usize, k: usize) -> Plane
 }
 
 // One pair more.
-fn add(t: Tally, p: Pair) -> Tally
+pub(crate) fn add(t: Tally, p: Pair) -> Tally
     requires { ⌜ tallySum t < 4294967296 ⌝ }
     ensures { λ r. ⌜ r ≡ tallyOn t (p ∷ []) ⌝ }
 {
@@ -136,56 +136,6 @@ fn outcome_kept(o: Outcome) -> usize
     }
 }
 
-// A leg against the legs of a string from position `from` up to `to`, counted on from a start.
-pub(crate) fn count_row(
-    arc: Plane,
-    v: &[f64],
-    n: usize,
-    from: usize,
-    to: usize,
-    start: Tally,
-) -> Tally
-    requires { ⌜ (length (now v) ≡ 3 * n) × (to ≤ n) × (n ≤ 1024) × (tallySum start + 2 * n < 4294967296) × (arc ≡ planeOf (planeLeg arc)) ⌝ }
-    ensures { λ r. ⌜ r ≡ tallyOn start (rowPairs (planeLeg arc) (now (v .entry)) from to) ⌝ }
-{
-    let mut t = start;
-    let mut k = from;
-    while k < to {
-        t = add(t, crossing::planes_pair(arc, leg_plane(v, n, k)));
-        k += 1;
-    }
-    t
-}
-
-// The first `la` legs of a string against the first `lb` legs of another.
-pub fn count_between(a: &[f64], na: usize, la: usize, b: &[f64], nb: usize, lb: usize) -> Tally
-    requires { ⌜ (length (now a) ≡ 3 * na) × (la ≤ na) × (na ≤ 1024) ⌝ }
-    requires { ⌜ (length (now b) ≡ 3 * nb) × (lb ≤ nb) × (nb ≤ 1024) ⌝ }
-    ensures { λ r. ⌜ r ≡ tallyOn noTally (pairsBetween (legsFrom (now (a .entry)) 0 la) (legsFrom (now (b .entry)) 0 lb)) ⌝ }
-{
-    let mut t = none();
-    let mut i = 0;
-    while i < la {
-        t = count_row(leg_plane(a, na, i), b, nb, 0, lb, t);
-        i += 1;
-    }
-    t
-}
-
-// The first `l` legs of a string, each against those after the next one.
-pub(crate) fn count_within(v: &[f64], n: usize, l: usize) -> Tally
-    requires { ⌜ (length (now v) ≡ 3 * n) × (l ≤ n) × (n ≤ 1024) ⌝ }
-    ensures { λ r. ⌜ r ≡ tallyOn noTally (pairsWithin (legsFrom (now (v .entry)) 0 l)) ⌝ }
-{
-    let mut t = none();
-    let mut i = 0;
-    while i < l {
-        t = count_row(leg_plane(v, n, i), v, n, i + 2, l, t);
-        i += 1;
-    }
-    t
-}
-
 // A kept point and its mark written at place `at`.
 fn put_mark(points: &mut [f64], marks: &mut [u8], at: usize, p: SphericalPoint, mark: u8)
     requires { ⌜ (3 * at + 3 ≤ length (now points)) × (at + 1 ≤ length (now marks)) ⌝ }
@@ -221,92 +171,30 @@ fn store(points: &mut [f64], marks: &mut [u8], at: usize, p: Pair) -> usize
     }
 }
 
-// What a leg keeps of its pairs with the legs of a string from position `from` up to `to`, written from place `at`
-// on; the next place.
-pub(crate) fn list_row(
-    arc: Plane,
-    v: &[f64],
-    n: usize,
-    from: usize,
-    to: usize,
-    points: &mut [f64],
-    marks: &mut [u8],
-    at: usize,
-) -> usize
-    requires { ⌜ (length (now v) ≡ 3 * n) × (to ≤ n) × (arc ≡ planeOf (planeLeg arc)) ⌝ }
-    requires { ⌜ 3 * (at + length (keptMarks (rowPairs (planeLeg arc) (now v) from to))) ≤ length (now points) ⌝ }
-    requires { ⌜ at + length (keptMarks (rowPairs (planeLeg arc) (now v) from to)) ≤ length (now marks) ⌝ }
-    ensures { λ r. ⌜ r ≡ at + length (keptMarks (rowPairs (planeLeg arc) (now (v .entry)) from to)) ⌝ }
-    ensures { λ _. ⌜ now (points .exit) ≡ splice (now (points .entry)) (3 * at) (flat (map markPoint (keptMarks (rowPairs (planeLeg arc) (now (v .entry)) from to)))) ⌝ }
-    ensures { λ _. ⌜ now (marks .exit) ≡ splice (now (marks .entry)) at (map markByte (keptMarks (rowPairs (planeLeg arc) (now (v .entry)) from to))) ⌝ }
+// What one pair keeps written at place `at`, if the walk writes.
+pub(crate) fn store_if(write: bool, points: &mut [f64], marks: &mut [u8], at: usize, p: Pair)
+    requires { ⌜ RoomIf write (p ∷ []) at (now points) (now marks) ⌝ }
+    ensures { λ _. ⌜ WrittenIf write (p ∷ []) at (now (points .entry)) (now (marks .entry)) (now (points .exit)) (now (marks .exit)) ⌝ }
 {
-    let mut next = at;
-    let mut k = from;
-    while k < to {
-        next = store(
-            points,
-            marks,
-            next,
-            crossing::planes_pair(arc, leg_plane(v, n, k)),
-        );
-        k += 1;
-    }
-    next
-}
-
-// What the first `la` legs of a string keep of their pairs with the first `lb` legs of another, written from the
-// start of the buffers. `kept` is how many points that is: where all are written the walk ends.
-pub(crate) fn list_between(
-    a: &[f64],
-    na: usize,
-    la: usize,
-    b: &[f64],
-    nb: usize,
-    lb: usize,
-    kept: usize,
-    points: &mut [f64],
-    marks: &mut [u8],
-)
-    requires { ⌜ (length (now a) ≡ 3 * na) × (la ≤ na) × (length (now b) ≡ 3 * nb) × (lb ≤ nb) × (kept ≡ length (keptMarks (pairsBetween (legsFrom (now a) 0 la) (legsFrom (now b) 0 lb)))) ⌝ }
-    requires { ⌜ 3 * length (keptMarks (pairsBetween (legsFrom (now a) 0 la) (legsFrom (now b) 0 lb))) ≤ length (now points) ⌝ }
-    requires { ⌜ length (keptMarks (pairsBetween (legsFrom (now a) 0 la) (legsFrom (now b) 0 lb))) ≤ length (now marks) ⌝ }
-    ensures { λ _. ⌜ now (points .exit) ≡ splice (now (points .entry)) 0 (flat (map markPoint (keptMarks (pairsBetween (legsFrom (now (a .entry)) 0 la) (legsFrom (now (b .entry)) 0 lb))))) ⌝ }
-    ensures { λ _. ⌜ now (marks .exit) ≡ splice (now (marks .entry)) 0 (map markByte (keptMarks (pairsBetween (legsFrom (now (a .entry)) 0 la) (legsFrom (now (b .entry)) 0 lb)))) ⌝ }
-{
-    let mut next = 0;
-    let mut i = 0;
-    while i < la {
-        if next == kept {
-            return;
-        }
-        next = list_row(leg_plane(a, na, i), b, nb, 0, lb, points, marks, next);
-        i += 1;
+    if write {
+        let next = store(points, marks, at, p);
     }
 }
 
-// What the first `l` legs of a string keep of their pairs with those after the next one, written from the start of
-// the buffers. `kept` is how many points that is: where all are written the walk ends.
-pub(crate) fn list_within(
-    v: &[f64],
-    n: usize,
-    l: usize,
-    kept: usize,
-    points: &mut [f64],
-    marks: &mut [u8],
-)
-    requires { ⌜ (length (now v) ≡ 3 * n) × (l ≤ n) × (n ≤ 1024) × (kept ≡ length (keptMarks (pairsWithin (legsFrom (now v) 0 l)))) ⌝ }
-    requires { ⌜ 3 * length (keptMarks (pairsWithin (legsFrom (now v) 0 l))) ≤ length (now points) ⌝ }
-    requires { ⌜ length (keptMarks (pairsWithin (legsFrom (now v) 0 l))) ≤ length (now marks) ⌝ }
-    ensures { λ _. ⌜ now (points .exit) ≡ splice (now (points .entry)) 0 (flat (map markPoint (keptMarks (pairsWithin (legsFrom (now (v .entry)) 0 l))))) ⌝ }
-    ensures { λ _. ⌜ now (marks .exit) ≡ splice (now (marks .entry)) 0 (map markByte (keptMarks (pairsWithin (legsFrom (now (v .entry)) 0 l)))) ⌝ }
+// Of the pairs with the legs from position `from` up to `to` all but `found` counted on, which are apart.
+pub(crate) fn add_apart(t: Tally, from: usize, to: usize, found: usize) -> Tally
+    requires { ⌜ (tallySum t < 4294967296) × (to ≤ 1024) × (found ≤ to - from) ⌝ }
+    ensures { λ r. ⌜ r ≡ tallyOn t (replicate (to - from - found) Apart) ⌝ }
 {
-    let mut next = 0;
-    let mut i = 0;
-    while i < l {
-        if next == kept {
-            return;
-        }
-        next = list_row(leg_plane(v, n, i), v, n, i + 2, l, points, marks, next);
-        i += 1;
+    if to <= from {
+        return t;
+    }
+    let more = (to - from - found) as u64;
+    Tally {
+        clean: t.clean,
+        end: t.end,
+        grazing: t.grazing,
+        apart: t.apart + more,
+        kept: t.kept,
     }
 }

@@ -13,6 +13,7 @@ use arcstring::build::Built;
 use arcstring::check;
 use arcstring_crossing::listing::Counts;
 use arcstring_crossing::tally;
+use arcstring_crossing::walk;
 
 // Counts, or the number of a refusal.
 pub(crate) enum Outcome {
@@ -36,7 +37,7 @@ fn count_built(a: &[f64], b: &[f64]) -> Outcome
                 Built::String(m, other_closed) => {
                     let n_end = 3 * n;
                     let m_end = 3 * m;
-                    Outcome::Counts(tally::counts_of(tally::count_between(
+                    Outcome::Counts(tally::counts_of(walk::count_between(
                         &first[..n_end],
                         n,
                         tally::leg_count(n, closed),

@@ -1,24 +1,20 @@
--- What the pairs of two accepted strings keep is written. Assumes nothing.
-use Rattle.arcstring.proofs.Checks.{stored-whole, stored-some}
-use Rattle.arcstring_crossing.proofs.Marks.{room-of, kept-of, written-of}
-use Rattle.arcstring_crossing.proofs.Visits.{two-visits}
+-- The listing of the pairs of two accepted strings: by one walk where the buffers hold a point of every pair, else counted first and refused for want of room. Assumes nothing.
+use mathlib.Core.Path.{refl}
+use Rattle.arcstring_crossing.specs.Listing.{listingOf}
+use Rattle.arcstring_crossing.proofs.Listings.{lists-plain, fitting-leaves, no-room-leaves, listing-leaves, room-for-all}
+use Rattle.arcstring_crossing.proofs.Tallies.{tally-kept}
 use borrow.Author.Needs.{needs}
 use Rattle.arcstring_crossing.proofs.listing.list_two.Statement.{statement}
 use Rattle.arcstring_crossing.proofs.listing.list_two.Tie as tie
 
-leg-count-requires : tie.Need-leg-count-requires
-leg-count-requires c κs = stored-some _ (c .before .before .before .before .pre .0 .0)
+holds-all-requires : tie.Need-holds-all-requires
+holds-all-requires c κs = search needs
 
-leg-count-requires-2 : tie.Need-leg-count-requires-2
-leg-count-requires-2 c κs = stored-some _ (c .before .before .before .before .before .pre .0 .1)
+visit-two-requires : tie.Need-visit-two-requires
+visit-two-requires c κs = (c .before .before .before .before .before .before .before .before .pre, c .before .before .before .holds-all .ensures (c .before .before .if1 .taken))
 
-list-between-requires : tie.Need-list-between-requires
-list-between-requires c κs = let s = c .before .before .before .before .before .before .before .before in
-    let p = s .pre .0 in
-    let u = stored-whole _ (p .0) in
-    let w = stored-whole _ (p .1) in
-    let v = two-visits _ _ _ _ _ _ (p .0) (c .before .before .before .leg-count .ensures .0) (p .1) (c .before .before .leg-count2 .ensures .0) in
-    ((u .triples, c .before .before .before .leg-count .ensures .1, w .triples, c .before .before .leg-count2 .ensures .1, kept-of _ _ v (s .args .points .now) (s .args .marks .now) _ (p .2)), room-of _ _ v (s .args .points .now) (s .args .marks .now) (s .pre .1))
+counts-of-requires : tie.Need-counts-of-requires
+counts-of-requires c κs = search needs
 
 same-length : tie.Need-same-length
 same-length c = search needs
@@ -27,16 +23,61 @@ same-length-2 : tie.Need-same-length-2
 same-length-2 c = search needs
 
 returns : tie.Need-returns
-returns c = let p = c .before .before .before .before .before .before .before .before .before .before .before .before .before .pre .0 in
-    written-of _ _ (two-visits _ _ _ _ _ _ (p .0) (c .before .before .before .before .before .before .before .before .leg-count .ensures .0) (p .1) (c .before .before .before .before .before .before .before .leg-count2 .ensures .0)) _ _ _ _ (c .before .before .before .before .list-between .ensures)
+unfolding listingOf
+returns c = let w = c .before .before .before .before .before .visit-two .ensures in
+    fitting-leaves _ _ (lists-plain _) _ _ _ _ _ _ _ (w .0) (c .before .before .before .before .before .before .before .before .before .holds-all .ensures (c .before .before .before .before .before .before .before .before .if1 .taken)) refl (c .counts-of .ensures) (w .1 .0) (w .1 .1)
+
+tally-two-requires : tie.Need-tally-two-requires
+tally-two-requires c κs = search needs
+
+check-buffers-requires : tie.Need-check-buffers-requires
+check-buffers-requires c κs = search needs
+
+enum-known-room : tie.Need-enum-known-room
+enum-known-room c = search needs
+
+returns-2 : tie.Need-returns-2
+returns-2 c = no-room-leaves _ _ (lists-plain _) _ (c .before .before .before .before .tally-two .ensures .0) _ _ _ (c .before .before .before .check-buffers .ensures) _ _ refl (c .before .room .given .1)
+
+enum-told : tie.Need-enum-told
+enum-told c = search needs
+
+write-two-requires : tie.Need-write-two-requires
+write-two-requires c κs = let s = c .before .before .before .before .before .before .before .before .before .before .before .before in
+    let t = c .before .before .before .before .before .tally-two .ensures .0 in
+    ((s .pre .0, s .pre .1, tally-kept _ _ t), room-for-all _ _ (lists-plain _) _ t _ (s .args .points .now) (s .args .marks .now) (c .before .before .before .before .check-buffers .ensures) (c .before .before .enum-told .given .1))
+
+counts-of-requires-2 : tie.Need-counts-of-requires-2
+counts-of-requires-2 c κs = search needs
+
+same-length-3 : tie.Need-same-length-3
+same-length-3 c = search needs
+
+same-length-4 : tie.Need-same-length-4
+same-length-4 c = search needs
+
+returns-3 : tie.Need-returns-3
+unfolding listingOf
+returns-3 c = let w = c .before .before .before .before .before .write-two .ensures in
+    listing-leaves _ _ (lists-plain _) _ (c .before .before .before .before .before .before .before .before .before .before .before .tally-two .ensures .0) _ _ _ (c .before .before .before .before .before .before .before .before .before .before .check-buffers .ensures) _ _ _ _ refl (c .before .before .before .before .before .before .before .before .enum-told .given .1) (c .counts-of2 .ensures) (w .0) (w .1)
 
 pub list-two-spec : {M : Type 1} → statement M
 list-two-spec =
     tie.close
     (tie.spec
-    leg-count-requires
-    leg-count-requires-2
-    list-between-requires
+    holds-all-requires
+    visit-two-requires
+    counts-of-requires
     same-length
     same-length-2
-    returns)
+    returns
+    tally-two-requires
+    check-buffers-requires
+    enum-known-room
+    returns-2
+    enum-told
+    write-two-requires
+    counts-of-requires-2
+    same-length-3
+    same-length-4
+    returns-3)

@@ -45,11 +45,11 @@ enum-told : tie.Need-enum-told
 enum-told c = search needs
 
 tally-leg-requires : tie.Need-tally-leg-requires
-tally-leg-requires c κs = accepted c .1
+tally-leg-requires c κs = accepted c
 
 returns-2 : tie.Need-returns-2
 unfolding sameSide
-returns-2 c = ap (λ (k : ℕ). answered (eqb (k % 2) 0)) (tally-kept _ _ (c .before .tally-leg .ensures .0)) ∙ follows (c .before .before) _
+returns-2 c = ap (λ (k : ℕ). answered (eqb (k % 2) 0)) (tally-kept _ _ (c .before .tally-leg .ensures)) ∙ follows (c .before .before) _
 
 pub points-are-on-same-side-spec : {M : Type 1} → statement M
 points-are-on-same-side-spec =

@@ -1,0 +1,209 @@
+-- Planes kept in a list of runs: what a plane written there leaves, and the class of a pair by what is read from it. Assumes nothing.
+use mathlib.Core.Path.{_≡_, refl, sym, ap, ap₂, _∙_}
+use mathlib.Core.Bool.{Bool, true, false}
+use mathlib.Core.List.{List, [], _∷_}
+use Prim.Native.Nat.{ℕ, suc, _+_, _*_, _<_, _≤_}
+use native.Mathlib.Nat.{mul-le-mul-right, suc-mul}
+use native.Mathlib.Omega.{arith}
+use borrow.Author.Count.{below-more}
+use borrow.Author.Tests.{ltb-true, ltb-false}
+use lib.Dec.{ltb}
+use lib.ListN.{length, getD, set, length-set}
+use lib.Seq.{getD-set-same, getD-set-other}
+use lib.Ieee.{Float, nan}
+use Rattle.sphericalpoint.specs.declared.SphericalPoint.{SphericalPoint}
+use Rattle.sphericalpoint.specs.Vector.{xyzCross, xyzDot}
+use Rattle.arcstring.specs.Points.{point}
+use Rattle.arcstring_crossing.specs.declared.crossing.Pair.{Pair}
+use Rattle.arcstring_crossing.specs.declared.crossing.Pair.the-variants.{Apart}
+use Rattle.arcstring_crossing.specs.declared.crossing.Plane.{Plane}
+use Rattle.arcstring_crossing.specs.Crossing.{Leg, leg, pairOf, classAt}
+use Rattle.arcstring_crossing.specs.Plane.{planeLeg, planeOf, planeSides, runAt, putRun, PlaneAt, AllApart, FlagsOf}
+use Rattle.arcstring_crossing.specs.Tally.{legAt}
+use Rattle.arcstring_crossing.proofs.Classes.{planes-class}
+
+-- ---- a place in the list is one run's and one place's only
+
+places : (w i j m k : ℕ) → m < w → k < w → i * w + m ≡ j * w + k → (i ≡ j) × (m ≡ k)
+places w i j m k hm hk e = go (ltb i j) refl (ltb j i) refl
+  where
+    go : (b : Bool) → ltb i j ≡ b → (c : Bool) → ltb j i ≡ c → (i ≡ j) × (m ≡ k)
+    go true h c l =
+        let s : suc i ≤ j = omega (arith, ltb-true i j h) in
+        absurd (omega (arith, mul-le-mul-right w s, suc-mul i w))
+    go false h true l =
+        let s : suc j ≤ i = omega (arith, ltb-true j i l) in
+        absurd (omega (arith, mul-le-mul-right w s, suc-mul j w))
+    go false h false l =
+        let s : i ≡ j = omega (arith, ltb-false i j h, ltb-false j i l) in
+        (s, omega (arith, ap (λ (n : ℕ). n * w) s))
+
+-- ---- a vector written into the runs
+
+module _ (old : List Float) (w j k : ℕ) (p : SphericalPoint) (at : k < w) (fits : (j + 3) * w ≤ length old) where
+  pub room-in-run : (d : ℕ) → d < 3 → (j + d) * w + k < length old
+  room-in-run d h =
+      let s : suc (j + d) ≤ j + 3 = omega arith in
+      omega (arith, mul-le-mul-right w s, suc-mul (j + d) w)
+
+  -- at any other place the list stays as it is
+  other-place : (i m : ℕ) → m < w → ((d : ℕ) → d < 3 → i ≡ j + d → m ≡ k → ⊥) → getD (putRun old w j k p) (i * w + m) nan ≡ getD old (i * w + m) nan
+  unfolding putRun
+  other-place i m h differ =
+      let z : j + 0 ≡ j = omega arith in
+      getD-set-other (set (set old (j * w + k) (p .x)) ((j + 1) * w + k) (p .y)) ((j + 2) * w + k) (i * w + m) (p .z) nan (λ e. let q = places w i (j + 2) m k h at e in differ 2 (omega arith) (q .0) (q .1))
+      ∙ getD-set-other (set old (j * w + k) (p .x)) ((j + 1) * w + k) (i * w + m) (p .y) nan (λ e. let q = places w i (j + 1) m k h at e in differ 1 (omega arith) (q .0) (q .1))
+      ∙ getD-set-other old (j * w + k) (i * w + m) (p .x) nan (λ e. let q = places w i j m k h at e in differ 0 (omega arith) (q .0 ∙ sym z) (q .1))
+
+  -- other vectors stay
+  pub other-run : (i m : ℕ) → m < w → ((d e : ℕ) → d < 3 → e < 3 → i + d ≡ j + e → m ≡ k → ⊥) → runAt (putRun old w j k p) w i m ≡ runAt old w i m
+  unfolding runAt
+  other-run i m h differ =
+      let z : i + 0 ≡ i = omega arith in
+      let e0 = other-place i m h (λ e l q r. differ 0 e (omega arith) l (z ∙ q) r) in
+      let e1 = other-place (i + 1) m h (λ e l q r. differ 1 e (omega arith) l q r) in
+      let e2 = other-place (i + 2) m h (λ e l q r. differ 2 e (omega arith) l q r) in
+      rw (e0, e1, e2)
+
+  -- the vector stands there
+  pub this-run : runAt (putRun old w j k p) w j k ≡ p
+  unfolding runAt putRun
+  this-run =
+      let l1 = set old (j * w + k) (p .x) in
+      let l2 = set l1 ((j + 1) * w + k) (p .y) in
+      let z : j + 0 ≡ j = omega arith in
+      let r0 : j * w + k < length old = omega (arith, room-in-run 0 (omega arith), ap (λ (n : ℕ). n * w) z) in
+      let r1 : (j + 1) * w + k < length l1 = omega (arith, room-in-run 1 (omega arith), length-set old (j * w + k) (p .x)) in
+      let r2 : (j + 2) * w + k < length l2 = omega (arith, room-in-run 2 (omega arith), length-set old (j * w + k) (p .x), length-set l1 ((j + 1) * w + k) (p .y)) in
+      let e0 : getD (set l2 ((j + 2) * w + k) (p .z)) (j * w + k) nan ≡ p .x
+      = getD-set-other l2 ((j + 2) * w + k) (j * w + k) (p .z) nan (λ e. absurd (omega (arith, places w j (j + 2) k k at at e .0)))
+      ∙ getD-set-other l1 ((j + 1) * w + k) (j * w + k) (p .y) nan (λ e. absurd (omega (arith, places w j (j + 1) k k at at e .0)))
+      ∙ getD-set-same old (j * w + k) (p .x) nan r0 in
+      let e1 : getD (set l2 ((j + 2) * w + k) (p .z)) ((j + 1) * w + k) nan ≡ p .y
+      = getD-set-other l2 ((j + 2) * w + k) ((j + 1) * w + k) (p .z) nan (λ e. absurd (omega (arith, places w (j + 1) (j + 2) k k at at e .0)))
+      ∙ getD-set-same l1 ((j + 1) * w + k) (p .y) nan r1 in
+      let e2 : getD (set l2 ((j + 2) * w + k) (p .z)) ((j + 2) * w + k) nan ≡ p .z = getD-set-same l2 ((j + 2) * w + k) (p .z) nan r2 in
+      rw (e0, e1, e2)
+
+  pub run-size : length (putRun old w j k p) ≡ length old
+  unfolding putRun
+  run-size =
+      length-set (set (set old (j * w + k) (p .x)) ((j + 1) * w + k) (p .y)) ((j + 2) * w + k) (p .z)
+      ∙ length-set (set old (j * w + k) (p .x)) ((j + 1) * w + k) (p .y)
+      ∙ length-set old (j * w + k) (p .x)
+
+-- ---- a plane written
+
+module _ (l0 l1 l2 l3 : List Float) (w k : ℕ) (p : Plane) (long : 9 * w ≤ length l0) (at : k < w)
+    (w1 : l1 ≡ putRun l0 w 0 k (p .normal)) (w2 : l2 ≡ putRun l1 w 3 k (p .before)) (w3 : l3 ≡ putRun l2 w 6 k (p .after)) where
+  size1 : length l1 ≡ length l0
+  size1 = ap length w1 ∙ run-size l0 w 0 k (p .normal) at (omega arith)
+
+  size2 : length l2 ≡ length l1
+  size2 = ap length w2 ∙ run-size l1 w 3 k (p .before) at (omega (arith, size1))
+
+  fits1 : (0 + 3) * w ≤ length l0
+  fits1 = omega arith
+
+  fits2 : (3 + 3) * w ≤ length l1
+  fits2 = omega (arith, size1)
+
+  fits3 : (6 + 3) * w ≤ length l2
+  fits3 = omega (arith, size1, size2)
+
+  pub plane-written : PlaneAt l3 w k p
+  plane-written =
+      record {
+        normal-at =
+            ap (λ (l : List Float). runAt l w 0 k) w3
+            ∙ other-run l2 w 6 k (p .after) at fits3 0 k at (λ d e h i q r. absurd (omega arith))
+            ∙ ap (λ (l : List Float). runAt l w 0 k) w2
+            ∙ other-run l1 w 3 k (p .before) at fits2 0 k at (λ d e h i q r. absurd (omega arith))
+            ∙ ap (λ (l : List Float). runAt l w 0 k) w1
+            ∙ this-run l0 w 0 k (p .normal) at fits1;
+        before-at =
+            ap (λ (l : List Float). runAt l w 3 k) w3
+            ∙ other-run l2 w 6 k (p .after) at fits3 3 k at (λ d e h i q r. absurd (omega arith))
+            ∙ ap (λ (l : List Float). runAt l w 3 k) w2
+            ∙ this-run l1 w 3 k (p .before) at fits2;
+        after-at = ap (λ (l : List Float). runAt l w 6 k) w3 ∙ this-run l2 w 6 k (p .after) at fits3;
+      }
+
+  -- those before it stay
+  stays : (i m : ℕ) → m < k → runAt l3 w i m ≡ runAt l0 w i m
+  stays i m h =
+      ap (λ (l : List Float). runAt l w i m) w3
+      ∙ other-run l2 w 6 k (p .after) at fits3 i m (omega arith) (λ d e a b q r. absurd (omega arith))
+      ∙ ap (λ (l : List Float). runAt l w i m) w2
+      ∙ other-run l1 w 3 k (p .before) at fits2 i m (omega arith) (λ d e a b q r. absurd (omega arith))
+      ∙ ap (λ (l : List Float). runAt l w i m) w1
+      ∙ other-run l0 w 0 k (p .normal) at fits1 i m (omega arith) (λ d e a b q r. absurd (omega arith))
+
+  pub plane-stays : (m : ℕ) → m < k → (q : Plane) → PlaneAt l0 w m q → PlaneAt l3 w m q
+  plane-stays m h q r = record { normal-at = stays 0 m h ∙ r .normal-at; before-at = stays 3 m h ∙ r .before-at; after-at = stays 6 m h ∙ r .after-at }
+
+-- ---- planes written one after the other
+
+plane-as : (planes : List Float) (w k : ℕ) (p q : Plane) → p ≡ q → PlaneAt planes w k p → PlaneAt planes w k q
+plane-as planes w k p q e h =
+    record {
+      normal-at = h .normal-at ∙ ap (λ (r : Plane). r .normal) e;
+      before-at = h .before-at ∙ ap (λ (r : Plane). r .before) e;
+      after-at = h .after-at ∙ ap (λ (r : Plane). r .after) e;
+    }
+
+pub planes-next : (v : List Float) (n : ℕ) (old new : List Float) (w k : ℕ) (p : Plane) → ((j : ℕ) → j < k → PlaneAt old w j (planeOf (legAt v n j))) → p ≡ planeOf (legAt v n k)
+    → PlaneAt new w k p × ((j : ℕ) → j < k → (q : Plane) → PlaneAt old w j q → PlaneAt new w j q) → (j : ℕ) → j < k + 1 → PlaneAt new w j (planeOf (legAt v n j))
+planes-next v n old new w k p all e s =
+    below-more (λ (j : ℕ). PlaneAt new w j (planeOf (legAt v n j))) k (λ j h. s .1 j h (planeOf (legAt v n j)) (all j h)) (plane-as new w k p (planeOf (legAt v n k)) e (s .0))
+
+-- ---- the class of a pair, by what is read of the second leg
+
+pub read-class : (a b : Plane) (x : Leg) (planes : List Float) (w k : ℕ) (t n2 b2 a2 : SphericalPoint) (s : List Float) → a ≡ planeOf (planeLeg a) → b ≡ planeOf x → PlaneAt planes w k b
+    → n2 ≡ runAt planes w 0 k → b2 ≡ runAt planes w 3 k → a2 ≡ runAt planes w 6 k
+    → t ≡ xyzCross (a .normal) n2 → s ≡ xyzDot (a .before) t ∷ xyzDot (a .after) t ∷ xyzDot b2 t ∷ xyzDot a2 t ∷ []
+    → classAt t (planeLeg a) x s ≡ pairOf (planeLeg a) x
+unfolding planeSides planeOf
+read-class a b x planes w k t n2 b2 a2 s ha hb at hn hbef haft ht hs =
+    let same : planeLeg b ≡ x = ap planeLeg hb in
+    ap (λ (l : Leg). classAt t (planeLeg a) l s) (sym same)
+    ∙ planes-class a b t s ha (hb ∙ ap planeOf (sym same)) (ht ∙ ap (xyzCross (a .normal)) (hn ∙ at .normal-at))
+    (hs ∙ ap₂ (λ (u w : SphericalPoint). xyzDot (a .before) t ∷ xyzDot (a .after) t ∷ xyzDot u t ∷ xyzDot w t ∷ []) (hbef ∙ at .before-at) (haft ∙ at .after-at))
+    ∙ ap (pairOf (planeLeg a)) same
+
+pub class-of-leg : (t : SphericalPoint) (a : Leg) (b0 b1 p0 p1 : SphericalPoint) (x : Leg) (s : List Float) (r : Pair) → r ≡ classAt t a (leg b0 b1) s → b0 ≡ p0 → b1 ≡ p1 → leg p0 p1 ≡ x
+    → r ≡ classAt t a x s
+class-of-leg t a b0 b1 p0 p1 x s r h h0 h1 e = h ∙ ap (λ (l : Leg). classAt t a l s) (ap₂ leg h0 h1 ∙ e)
+
+-- ---- the flags of a row
+
+module _ (a : Leg) (planes : List Float) (w from k : ℕ) where
+  -- one more pair that is apart, where its flag is 0
+  pub aparts-next : (found f : ℕ) → (found ≡ 0 → AllApart a planes w from k) → ((x : Leg) → PlaneAt planes w k (planeOf x) → f ≡ 0 → Apart ≡ pairOf a x) → found + f ≡ 0 → AllApart a planes w from (k + 1)
+  aparts-next found f all here z =
+      let o = all (omega arith) in
+      let e : f ≡ 0 = omega arith in
+      let more = below-more (λ (j : ℕ). from ≤ j → (x : Leg) → PlaneAt planes w j (planeOf x) → Apart ≡ pairOf a x) k (λ j h i x q. o .each j i h x q) (λ i x q. here x q e) in
+      record { each = λ j i h x q. more j h i x q }
+
+  pub flags-next : (flags : List ℕ) (f : ℕ) → k < length flags → FlagsOf a planes w from k flags → ((x : Leg) → PlaneAt planes w k (planeOf x) → f ≡ 0 → Apart ≡ pairOf a x)
+      → FlagsOf a planes w from (k + 1) (set flags k f)
+  flags-next flags f fits old here =
+      let more =
+      below-more (λ (j : ℕ). from ≤ j → (x : Leg) → PlaneAt planes w j (planeOf x) → getD (set flags k f) j 0 ≡ 0 → Apart ≡ pairOf a x) k
+      (λ j h i x q z. old .each j i h x q (sym (getD-set-other flags k j f 0 (λ e. absurd (omega arith))) ∙ z))
+      (λ i x q z. here x q (sym (getD-set-same flags k f 0 fits) ∙ z)) in
+      record { each = λ j i h x q z. more j h i x q z }
+
+pub aparts-none : (a : Leg) (planes : List Float) (w from : ℕ) → AllApart a planes w from from
+aparts-none a planes w from = record { each = λ j i h x q. absurd (omega arith) }
+
+pub flags-none : (a : Leg) (planes : List Float) (w from : ℕ) (flags : List ℕ) → FlagsOf a planes w from from flags
+flags-none a planes w from flags = record { each = λ j i h x q z. absurd (omega arith) }
+
+-- from a position on that lies past the end there are none
+pub aparts-to : (a : Leg) (planes : List Float) (w from k to : ℕ) → to ≤ k → AllApart a planes w from k → AllApart a planes w from to
+aparts-to a planes w from k to h o = record { each = λ j i l x q. o .each j i (omega arith) x q }
+
+pub flags-to : (a : Leg) (planes : List Float) (w from k to : ℕ) (flags : List ℕ) → to ≤ k → FlagsOf a planes w from k flags → FlagsOf a planes w from to flags
+flags-to a planes w from k to flags h o = record { each = λ j i l x q z. o .each j i (omega arith) x q z }

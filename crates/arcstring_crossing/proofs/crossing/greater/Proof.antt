@@ -1,0 +1,13 @@
+-- The greater of two floats. Assumes nothing.
+use borrow.Author.Needs.{needs}
+use Rattle.arcstring_crossing.proofs.crossing.greater.Statement.{statement}
+use Rattle.arcstring_crossing.proofs.crossing.greater.Tie as tie
+
+returns : tie.Need-returns
+returns c = rw (c .if1 .taken)
+
+returns-2 : tie.Need-returns-2
+returns-2 c = rw (c .if1 .left)
+
+pub greater-spec : {M : Type 1} → statement M
+greater-spec = tie.close (tie.spec returns returns-2)

@@ -1,0 +1,13 @@
+-- The smaller of two floats. Assumes nothing.
+use borrow.Author.Needs.{needs}
+use Rattle.arcstring_crossing.proofs.crossing.smaller.Statement.{statement}
+use Rattle.arcstring_crossing.proofs.crossing.smaller.Tie as tie
+
+returns : tie.Need-returns
+returns c = rw (c .if1 .taken)
+
+returns-2 : tie.Need-returns-2
+returns-2 c = rw (c .if1 .left)
+
+pub smaller-spec : {M : Type 1} → statement M
+smaller-spec = tie.close (tie.spec returns returns-2)

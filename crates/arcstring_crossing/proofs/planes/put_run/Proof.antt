@@ -1,0 +1,79 @@
+-- A vector is written into three runs. Assumes nothing.
+use native.Mathlib.Omega.{arith}
+use Prim.Native.Nat.{_+_, _*_}
+use lib.ListN.{set, length-set}
+use Rattle.arcstring_crossing.specs.Plane.{putRun}
+use Rattle.arcstring_crossing.proofs.KeptPlanes.{room-in-run}
+use borrow.Author.Needs.{needs}
+use Rattle.arcstring_crossing.proofs.planes.put_run.Statement.{statement}
+use Rattle.arcstring_crossing.proofs.planes.put_run.Tie as tie
+
+mul-planes : tie.Need-mul-planes
+mul-planes c = search needs
+
+add-planes : tie.Need-add-planes
+add-planes c = search needs
+
+mul-planes-2 : tie.Need-mul-planes-2
+mul-planes-2 c = search needs
+
+slice-write-planes : tie.Need-slice-write-planes
+slice-write-planes c = search needs
+
+add-planes-2 : tie.Need-add-planes-2
+add-planes-2 c = search needs
+
+mul-planes-3 : tie.Need-mul-planes-3
+mul-planes-3 c = search needs
+
+add-planes-3 : tie.Need-add-planes-3
+add-planes-3 c = search needs
+
+mul-planes-4 : tie.Need-mul-planes-4
+mul-planes-4 c = search needs
+
+slice-write-planes-2 : tie.Need-slice-write-planes-2
+slice-write-planes-2 c = omega (arith, room-in-run (c .args .planes .now) (c .args .width) (c .args .j) (c .args .k) (c .args .p) (c .pre .1) (c .pre .0) 1 (omega arith), length-set (c .args .planes .now) (c .args .j * c .args .width + c .args .k) (c .args .p .x))
+
+add-planes-4 : tie.Need-add-planes-4
+add-planes-4 c = search needs
+
+mul-planes-5 : tie.Need-mul-planes-5
+mul-planes-5 c = search needs
+
+add-planes-5 : tie.Need-add-planes-5
+add-planes-5 c = search needs
+
+mul-planes-6 : tie.Need-mul-planes-6
+mul-planes-6 c = search needs
+
+slice-write-planes-3 : tie.Need-slice-write-planes-3
+slice-write-planes-3 c = omega (arith, room-in-run (c .args .planes .now) (c .args .width) (c .args .j) (c .args .k) (c .args .p) (c .pre .1) (c .pre .0) 2 (omega arith), length-set (c .args .planes .now) (c .args .j * c .args .width + c .args .k) (c .args .p .x), length-set (set (c .args .planes .now) (c .args .j * c .args .width + c .args .k) (c .args .p .x)) ((c .args .j + 1) * c .args .width + c .args .k) (c .args .p .y))
+
+same-length : tie.Need-same-length
+same-length c = search needs
+
+returns : tie.Need-returns
+unfolding putRun
+returns c = search needs
+
+pub put-run-spec : {M : Type 1} → statement M
+put-run-spec =
+    tie.close
+    (tie.spec
+    mul-planes
+    add-planes
+    mul-planes-2
+    slice-write-planes
+    add-planes-2
+    mul-planes-3
+    add-planes-3
+    mul-planes-4
+    slice-write-planes-2
+    add-planes-4
+    mul-planes-5
+    add-planes-5
+    mul-planes-6
+    slice-write-planes-3
+    same-length
+    returns)
