@@ -24,18 +24,22 @@ pub fn legs(points: &[Xyz], closed: bool) -> Vec<Leg> {
     (0..n - !closed as usize).map(|i| (points[i], points[(i + 1) % n])).collect()
 }
 
-pub fn judge(a: Leg, b: Leg) -> Judged {
+/// the four side values of a pair
+pub fn sides(a: Leg, b: Leg) -> [f64; 4] {
     let (p, q) = (xyz_cross(&a.0, &a.1), xyz_cross(&b.0, &b.1));
     let t = xyz_cross(&p, &q);
-    let sides = [
+    [
         xyz_dot(&xyz_neg(&xyz_cross(&a.0, &p)), &t),
         xyz_dot(&xyz_cross(&a.1, &p), &t),
         xyz_dot(&xyz_neg(&xyz_cross(&b.0, &q)), &t),
         xyz_dot(&xyz_cross(&b.1, &q), &t),
-    ];
+    ]
+}
+
+pub fn judge(a: Leg, b: Leg) -> Judged {
     let point = arcs_crossing((&a.0, &a.1), (&b.0, &b.1));
     let end = point.is_some_and(|p| [a.0, a.1, b.0, b.1].iter().any(|e| xyz_eq(&p, e)));
-    let class = if sides.contains(&0.0) {
+    let class = if sides(a, b).contains(&0.0) {
         Class::Grazing
     } else if point.is_none() {
         Class::Apart

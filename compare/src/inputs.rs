@@ -183,7 +183,7 @@ pub fn within_range(p: Xyz) -> Xyz {
     p.map(|c| if c.is_nan() { 0.0 } else { clamp(c) })
 }
 
-fn unit(p: Xyz) -> Xyz {
+pub fn unit(p: Xyz) -> Xyz {
     let length = (p[0] * p[0] + p[1] * p[1] + p[2] * p[2]).sqrt();
     if length < 1e-3 { p } else { p.map(|c| clamp(c / length)) }
 }

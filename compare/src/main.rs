@@ -9,6 +9,7 @@ mod expected_edit;
 mod found;
 mod inputs;
 mod kinds;
+mod narrow;
 mod random;
 mod request;
 mod roots;
@@ -27,12 +28,13 @@ use tally::Tally;
 type Work = fn(&mut Tally, u64);
 
 /// What can be compared, with the usual number of comparisons; the found and the small requests are as many as there are.
-const COMPARISONS: [(&str, u64, Work); 6] = [
+const COMPARISONS: [(&str, u64, Work); 7] = [
     ("found", 1, found::run),
     ("roots", 12_000_000, roots::run),
     ("vectors", 3_000_000, vectors::run),
     ("small", 1, small::run),
     ("strings", 6_000_000, strings::run),
+    ("narrow", 5_000_000, narrow::run),
     ("edits", 1_000_000, edits::run),
 ];
 

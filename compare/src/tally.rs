@@ -7,29 +7,51 @@ use crate::sample::Sample;
 use std::collections::BTreeMap;
 use std::time::Instant;
 
+/// How often each kind came.
+#[derive(Default)]
+struct Counts(BTreeMap<String, u64>);
+
+impl Counts {
+    fn add(&mut self, kind: &str) {
+        match self.0.get_mut(kind) {
+            Some(n) => *n += 1,
+            None => {
+                self.0.insert(kind.to_string(), 1);
+            }
+        }
+    }
+
+    fn print(&self) {
+        for (kind, n) in &self.0 {
+            println!("    {n:>10}  {kind}");
+        }
+    }
+}
+
 pub struct Tally {
     pub done: u64,
     pub different: u64,
     name: &'static str,
     started: Instant,
-    kinds: BTreeMap<String, u64>,
+    kinds: Counts,
+    seen: Counts,
     pub sample: Option<Sample>,
 }
 
 impl Tally {
     pub fn new(name: &'static str, sample: Option<Sample>) -> Self {
-        Self { done: 0, different: 0, name, started: Instant::now(), kinds: BTreeMap::new(), sample }
+        Self { done: 0, different: 0, name, started: Instant::now(), kinds: Counts::default(), seen: Counts::default(), sample }
+    }
+
+    /// something that the inputs held: counted in the summary, and no comparison
+    pub fn see(&mut self, kind: &str) {
+        self.seen.add(kind);
     }
 
     /// one comparison of the kind; `input` is shown where the two differ
     pub fn compare(&mut self, kind: &str, same: bool, input: impl Fn() -> String) {
         self.done += 1;
-        match self.kinds.get_mut(kind) {
-            Some(n) => *n += 1,
-            None => {
-                self.kinds.insert(kind.to_string(), 1);
-            }
-        }
+        self.kinds.add(kind);
         if !same {
             self.different += 1;
             if self.different <= 10 {
@@ -54,8 +76,9 @@ impl Tally {
     pub fn summary(&self) {
         eprint!("\r");
         let mut calls: BTreeMap<&str, u64> = BTreeMap::new();
-        for (kind, n) in &self.kinds {
-            println!("    {n:>10}  {kind}");
+        self.seen.print();
+        self.kinds.print();
+        for (kind, n) in &self.kinds.0 {
             *calls.entry(kind.split(':').next().unwrap_or(kind)).or_default() += n;
         }
         let calls: Vec<String> = calls.iter().map(|(call, n)| format!("{call} {n}")).collect();
