@@ -1,123 +1,104 @@
-//! Times calls of arcstring_c beside the published Rust: same inputs, one run, the two by turns, medians.
+//! Times calls of arcstring_c beside the published Rust: same inputs, one run, by turns, medians.
 use crate::calls::c;
-use crate::expected::{stored, triples};
-use crate::random::{Random, clamp};
+use crate::expected::{flat, stored, triples};
+use crate::inputs::unit;
+use crate::random::{Random, Xyz};
 use crate::roots;
-use sphersgeo::arcstring::{ArcString, arc_crossings_with_arcstring, point_is_along_arcstring};
+#[cfg(feature = "s2")]
+use crate::s2;
+use crate::timing::by_turns;
+use sphersgeo::arcstring::{ArcString, arc_crossings_with_arcstring, point_is_along_arcstring, points_are_on_same_side};
 use sphersgeo::sphericalpoint::MultiSphericalPoint;
 use std::hint::black_box;
-use std::time::Instant;
 
-const SIZES: [usize; 3] = [16, 256, 1024];
-const TURNS: usize = 31;
+pub const SIZES: [usize; 3] = [16, 256, 1024];
+pub const LEGS: [(&str, f64); 2] = [("long", 1.0), ("short", 0.1)];
 
-/// what is timed: nanoseconds of the published and of ours
-struct Times {
-    published: f64,
-    ours: f64,
-}
+// ---- strings and buffers
 
-impl Times {
-    fn ratio(&self) -> f64 {
-        self.ours / self.published
-    }
-}
-
-fn time(work: &mut dyn FnMut(), inner: usize) -> f64 {
-    let start = Instant::now();
-    for _ in 0..inner {
-        work();
-    }
-    start.elapsed().as_nanos() as f64 / inner as f64
-}
-
-fn median(mut times: Vec<f64>) -> f64 {
-    times.sort_by(f64::total_cmp);
-    times[times.len() / 2]
-}
-
-/// the two by turns, so that a slow spell of the machine meets both
-fn side_by_side(inner: usize, mut published: impl FnMut(), mut ours: impl FnMut()) -> Times {
-    let (a, b): (Vec<f64>, Vec<f64>) = (0..TURNS).map(|_| (time(&mut published, inner), time(&mut ours, inner))).unzip();
-    Times { published: median(a), ours: median(b) }
-}
-
-/// a string of n unit points, each a step from the one before: long legs (step 1), which cross often, or short ones
+/// n unit points, each a step from the one before: long legs (step 1), which cross often, or short ones
 fn string(n: usize, seed: u64, step: f64) -> Vec<f64> {
     let mut random = Random(seed);
     let mut p = [random.coordinate(), random.coordinate(), random.coordinate()];
-    let mut out = vec![];
-    for _ in 0..n {
-        p = p.map(|c| c * (1.0 - step) + step * random.coordinate());
-        let length = (p[0] * p[0] + p[1] * p[1] + p[2] * p[2]).sqrt();
-        p = p.map(|c| clamp(c / length));
-        out.extend(p);
-    }
-    out
+    let mut next = |_| {
+        p = unit(p.map(|c| c * (1.0 - step) + step * random.coordinate()));
+        p
+    };
+    (0..n).flat_map(&mut next).collect()
 }
 
 /// every second vertex on the leg between its neighbours
 fn redundant(v: &[f64]) -> Vec<f64> {
     let points = triples(v);
-    let mut out = vec![];
-    for pair in points.windows(2) {
-        let middle = [0, 1, 2].map(|k| (pair[0][k] + pair[1][k]) / 2.0);
-        let length = (middle[0] * middle[0] + middle[1] * middle[1] + middle[2] * middle[2]).sqrt();
-        out.extend(pair[0]);
-        out.extend(middle.map(|c| clamp(c / length)));
+    let middle = |pair: &[Xyz]| unit([0, 1, 2].map(|k| (pair[0][k] + pair[1][k]) / 2.0));
+    let mut out: Vec<Xyz> = points.windows(2).flat_map(|pair| [pair[0], middle(pair)]).collect();
+    out.extend(points.last());
+    flat(&out)
+}
+
+/// n unit points from south to north, some twenty to a turn: no two legs cross
+fn spiral(n: usize) -> Vec<f64> {
+    let point = |k: usize| {
+        let (turn, height) = (0.3 * k as f64, 1.2 * (k as f64 / n as f64 - 0.5));
+        unit([turn.cos(), turn.sin(), height])
+    };
+    (0..n).flat_map(point).collect()
+}
+
+/// Places for kept points.
+pub struct Room {
+    points: Vec<f64>,
+    marks: Vec<u8>,
+    counts: [u64; 4],
+}
+
+impl Room {
+    pub fn of(points: usize) -> Self {
+        Self { points: vec![0.0; 3 * points], marks: vec![0; points], counts: [0; 4] }
     }
-    out.extend(points[points.len() - 1]);
-    out
+
+    /// how many points a listing call keeps, lent these places
+    fn kept_by(&mut self, call: impl FnOnce(*mut f64, usize, *mut u8, usize, *mut usize, *mut u64) -> u32) -> usize {
+        let mut kept = 0;
+        let number = call(self.points.as_mut_ptr(), self.points.len(), self.marks.as_mut_ptr(), self.marks.len(), &mut kept, self.counts.as_mut_ptr());
+        assert_eq!(number, 0, "a listing that is not refused");
+        kept
+    }
 }
 
-fn build(n: usize) -> Times {
-    let v = string(n, 5 + n as u64, 0.1);
-    let (mut out, mut count, mut closed) = (vec![0.0; 3 * n], 0, 0u8);
-    side_by_side(
-        (16384 / n).max(4),
-        || {
-            black_box(ArcString::try_from(MultiSphericalPoint::try_from(triples(black_box(&v))).unwrap()).unwrap());
-        },
-        || unsafe {
-            c::arcstring_build(black_box(v.as_ptr()), v.len(), out.as_mut_ptr(), out.len(), &mut count, &mut closed);
-        },
-    )
+/// two open strings of n vertices
+pub struct Two {
+    pub a: Vec<f64>,
+    pub b: Vec<f64>,
 }
 
-/// a string of n - 1 vertices of which about every second one goes
-fn simplify(n: usize) -> Times {
-    let v = redundant(&string(n / 2, 9 + n as u64, 0.1));
-    let s = stored(&v, &v, false);
-    let (mut out, mut count) = (vec![0.0; v.len()], 0);
-    side_by_side(
-        (8192 / n).max(4),
-        || {
-            let mut copy = black_box(&s).clone();
-            copy.simplify();
-            black_box(copy);
-        },
-        || unsafe {
-            c::arcstring_simplify(black_box(v.as_ptr()), v.len(), 0, out.as_mut_ptr(), out.len(), &mut count);
-        },
-    )
+impl Two {
+    pub fn new(n: usize, step: f64) -> Self {
+        Self { a: string(n, 1 + n as u64, step), b: string(n, 77 + n as u64, step) }
+    }
+
+    pub fn pairs(&self) -> usize {
+        (self.a.len() / 3 - 1) * (self.b.len() / 3 - 1)
+    }
+
+    /// how often a timed piece of work repeats a call
+    pub fn inner(&self) -> usize {
+        (6144 / self.a.len()).max(1)
+    }
+
+    pub fn count(&self) -> [u64; 4] {
+        let (a, b, mut counts) = (black_box(&self.a), &self.b, [0; 4]);
+        unsafe { c::arcstring_count(a.as_ptr(), a.len(), 0, b.as_ptr(), b.len(), 0, counts.as_mut_ptr()) };
+        counts
+    }
+
+    pub fn list(&self, room: &mut Room) -> usize {
+        let (a, b) = (black_box(&self.a), &self.b);
+        room.kept_by(|p, p_len, m, m_len, kept, counts| unsafe { c::arcstring_crossings(a.as_ptr(), a.len(), 0, b.as_ptr(), b.len(), 0, p, p_len, m, m_len, kept, counts) })
+    }
 }
 
-/// a point far from the string, so that every entry and every leg is looked at
-fn along(n: usize) -> Times {
-    let v = string(n, 5 + n as u64, 0.1);
-    let s = stored(&v, &v, false);
-    let p = [-v[0], -v[1], -v[2]];
-    let mut yes = 0u8;
-    side_by_side(
-        (16384 / n).max(4),
-        || {
-            black_box(point_is_along_arcstring(black_box(&p), &s));
-        },
-        || unsafe {
-            c::arcstring_along(p[0], p[1], p[2], black_box(v.as_ptr()), v.len(), v.as_ptr(), v.len(), 0, &mut yes);
-        },
-    )
-}
+// ---- crossings
 
 fn published_listing(s: &ArcString, t: &ArcString) {
     for ends in s.points.xyzs.windows(2) {
@@ -125,38 +106,154 @@ fn published_listing(s: &ArcString, t: &ArcString) {
     }
 }
 
-/// one line of the table of pairs: the counting call and the listing beside the published listing
-fn pairs(kind: &str, n: usize, step: f64) {
-    let (a, b) = (string(n, 1 + n as u64, step), string(n, 77 + n as u64, step));
-    let (s, t) = (stored(&a, &a, false), stored(&b, &b, false));
-    let inner = (2048 / n).max(1);
-    let mut counts = [0u64; 4];
-    let count = side_by_side(inner, || published_listing(&s, &t), || unsafe {
-        c::arcstring_count(black_box(a.as_ptr()), a.len(), 0, b.as_ptr(), b.len(), 0, counts.as_mut_ptr());
+/// one line of the table of pairs: the counting call and the listing, in both kinds of room, beside the published listing
+fn two_strings(kind: &str, n: usize, step: f64) {
+    let two = Two::new(n, step);
+    let (s, t, pairs) = (stored(&two.a, &two.a, false), stored(&two.b, &two.b, false), two.pairs());
+    let mut all = Room::of(pairs);
+    let kept = two.list(&mut all);
+    let mut exact = Room::of(kept);
+    let [published, count, in_all, in_exact] = by_turns(two.inner(), [
+        &mut || published_listing(&s, &t),
+        &mut || _ = black_box(two.count()),
+        &mut || _ = black_box(two.list(&mut all)),
+        &mut || _ = black_box(two.list(&mut exact)),
+    ]);
+    let ratio = |ours: f64| ours / published;
+    println!("| {kind} | {n} | {kept} of {pairs} | {:.1} | {:.2} | {:.2} | {:.2} |", published / pairs as f64, ratio(count), ratio(in_all), ratio(in_exact));
+}
+
+/// one line of the table of further listings: ours, in both kinds of room, beside the published one
+fn listing(names: &str, pairs: usize, published: &mut dyn FnMut(), ours: impl Fn(&mut Room) -> usize) {
+    let mut all = Room::of(pairs);
+    let kept = ours(&mut all);
+    let mut exact = Room::of(kept);
+    let inner = (100_000 / pairs).max(1);
+    let [published, in_all, in_exact] = by_turns(inner, [published, &mut || _ = black_box(ours(&mut all)), &mut || _ = black_box(ours(&mut exact))]);
+    println!("| {names} | {kept} of {pairs} | {:.1} | {:.2} | {:.2} |", published / pairs as f64, in_all / published, in_exact / published);
+}
+
+fn with_self(kind: &str, n: usize, step: f64) {
+    let v = string(n, 1 + n as u64, step);
+    let s = stored(&v, &v, false);
+    let mut published = || _ = black_box(black_box(&s).crossings_with_self());
+    listing(&format!("a string with itself | {kind} | {n}"), (n - 2) * (n - 3) / 2, &mut published, |room| {
+        let v = black_box(&v);
+        room.kept_by(|p, p_len, m, m_len, kept, counts| unsafe { c::arcstring_crossings_with_self(v.as_ptr(), v.len(), p, p_len, m, m_len, kept, counts) })
     });
-    let (mut points, mut marks, mut kept) = (vec![0.0; 3 * n * n], vec![0; n * n], 0);
-    let listing = side_by_side(inner, || published_listing(&s, &t), || unsafe {
-        c::arcstring_crossings(black_box(a.as_ptr()), a.len(), 0, b.as_ptr(), b.len(), 0, points.as_mut_ptr(), points.len(), marks.as_mut_ptr(), marks.len(), &mut kept, counts.as_mut_ptr());
+}
+
+/// a leg across the sphere
+fn leg() -> [Xyz; 2] {
+    let ends = triples(&string(2, 3, 1.0));
+    [ends[0], ends[1]]
+}
+
+fn one_leg(kind: &str, n: usize, step: f64) {
+    let (ends, v) = (leg(), string(n, 77 + n as u64, step));
+    let (leg, t) = (flat(&ends), stored(&v, &v, false));
+    let mut published = || _ = black_box(arc_crossings_with_arcstring((&ends[0], &ends[1]), black_box(&t)));
+    listing(&format!("one leg with a string | {kind} | {n}"), n - 1, &mut published, |room| {
+        let v = black_box(&v);
+        room.kept_by(|p, p_len, m, m_len, kept, counts| unsafe { c::arcstring_leg_crossings(leg.as_ptr(), v.as_ptr(), v.len(), 0, p, p_len, m, m_len, kept, counts) })
     });
-    let all = ((n - 1) * (n - 1)) as f64;
-    println!("| {kind} | {n} | {kept} of {all} | {:.1} | {:.2} | {:.2} |", listing.published / all, count.ratio(), listing.ratio());
+}
+
+// ---- calls with one answer
+
+/// nanoseconds of the published call and of ours
+type Times = [f64; 2];
+
+fn build(n: usize) -> Times {
+    let v = string(n, 5 + n as u64, 0.1);
+    let (mut out, mut count, mut closed) = (vec![0.0; 3 * n], 0, 0u8);
+    by_turns((16384 / n).max(4), [
+        &mut || _ = black_box(ArcString::try_from(MultiSphericalPoint::try_from(triples(black_box(&v))).unwrap()).unwrap()),
+        &mut || _ = unsafe { c::arcstring_build(black_box(v.as_ptr()), v.len(), out.as_mut_ptr(), out.len(), &mut count, &mut closed) },
+    ])
+}
+
+/// a string of n - 1 vertices of which about every second one goes
+fn simplify(n: usize) -> Times {
+    let v = redundant(&string(n / 2, 9 + n as u64, 0.1));
+    let s = stored(&v, &v, false);
+    let (mut out, mut count) = (vec![0.0; v.len()], 0);
+    by_turns((8192 / n).max(4), [
+        &mut || {
+            let mut copy = black_box(&s).clone();
+            copy.simplify();
+            black_box(copy);
+        },
+        &mut || _ = unsafe { c::arcstring_simplify(black_box(v.as_ptr()), v.len(), 0, out.as_mut_ptr(), out.len(), &mut count) },
+    ])
+}
+
+/// a point far from the string, so that every entry and every leg is looked at
+fn along(n: usize) -> Times {
+    let v = string(n, 5 + n as u64, 0.1);
+    let s = stored(&v, &v, false);
+    let (p, mut yes) = ([-v[0], -v[1], -v[2]], 0u8);
+    by_turns((16384 / n).max(4), [
+        &mut || _ = black_box(point_is_along_arcstring(black_box(&p), &s)),
+        &mut || _ = unsafe { c::arcstring_along(p[0], p[1], p[2], black_box(v.as_ptr()), v.len(), v.as_ptr(), v.len(), 0, &mut yes) },
+    ])
+}
+
+/// a string that does not cross itself, so that every pair is looked at
+fn crosses_self(n: usize) -> Times {
+    let v = spiral(n);
+    let s = stored(&v, &v, false);
+    let mut yes = 0u8;
+    assert!(!s.crosses_self());
+    by_turns((2048 / n).max(1), [
+        &mut || _ = black_box(black_box(&s).crosses_self()),
+        &mut || _ = unsafe { c::arcstring_crosses_self(black_box(v.as_ptr()), v.len(), 0, &mut yes) },
+    ])
+}
+
+fn same_side(n: usize) -> Times {
+    let ([a, b], v) = (leg(), string(n, 77 + n as u64, 1.0));
+    let (t, mut yes) = (stored(&v, &v, false), 0u8);
+    by_turns((100_000 / n).max(1), [
+        &mut || _ = black_box(points_are_on_same_side(&a, &b, black_box(&t))),
+        &mut || _ = unsafe { c::arcstring_same_side(a[0], a[1], a[2], b[0], b[1], b[2], black_box(v.as_ptr()), v.len(), 0, &mut yes) },
+    ])
+}
+
+// ---- the tables
+
+fn of_legs(sizes: &[usize], line: fn(&str, usize, f64)) {
+    for (kind, step) in LEGS {
+        for n in sizes {
+            line(kind, *n, step);
+        }
+    }
+}
+
+fn calls() {
+    println!("\n| call | vertices | published, us a call | ratio |\n|---|---|---|---|");
+    let calls: [(&str, &[usize], fn(usize) -> Times); 5] =
+        [("crosses_self", &SIZES, crosses_self), ("same_side", &[1024], same_side), ("build", &SIZES, build), ("simplify", &SIZES, simplify), ("along", &SIZES, along)];
+    for (name, sizes, call) in calls {
+        for n in sizes {
+            let [published, ours] = call(*n);
+            println!("| {name} | {n} | {:.2} | {:.2} |", published / 1000.0, ours / published);
+        }
+    }
 }
 
 pub fn run() {
-    println!("| legs | vertices | points kept of pairs | published listing, ns a pair | count: ratio | listing: ratio |\n|---|---|---|---|---|---|");
-    for (kind, step) in [("long", 1.0), ("short", 0.1)] {
-        for n in SIZES {
-            pairs(kind, n, step);
-        }
-    }
-    println!("\n| call | vertices | published, us a call | ratio |\n|---|---|---|---|");
-    for (name, call) in [("build", build as fn(usize) -> Times), ("simplify", simplify), ("along", along)] {
-        for n in SIZES {
-            let times = call(n);
-            println!("| {name} | {n} | {:.2} | {:.2} |", times.published / 1000.0, times.ratio());
-        }
-    }
+    println!("| legs | vertices | points kept of pairs | published listing, ns a pair | count: ratio | listing, room for all pairs: ratio | listing, room for the kept: ratio |");
+    println!("|---|---|---|---|---|---|---|");
+    of_legs(&SIZES, two_strings);
+    println!("\n| listing | legs | vertices | points kept of pairs | published, ns a pair | room for all pairs: ratio | room for the kept: ratio |");
+    println!("|---|---|---|---|---|---|---|");
+    of_legs(&SIZES, with_self);
+    of_legs(&[1024], one_leg);
+    #[cfg(feature = "s2")]
+    s2::table();
+    calls();
     let inputs = roots::inputs();
-    let times = side_by_side(16, || roots::all(&inputs, f64::sqrt), || roots::all(&inputs, roots::sqrt));
-    println!("\nsquare root: the processor's {:.1} ns, ratio {:.1}", times.published / inputs.len() as f64, times.ratio());
+    let [processor, ours] = by_turns(16, [&mut || roots::all(&inputs, f64::sqrt), &mut || roots::all(&inputs, roots::sqrt)]);
+    println!("\nsquare root: the processor's {:.1} ns, ratio {:.1}", processor / inputs.len() as f64, ours / processor);
 }

@@ -13,11 +13,14 @@ mod narrow;
 mod random;
 mod request;
 mod roots;
+#[cfg(feature = "s2")]
+mod s2;
 mod sample;
 mod small;
 mod strings;
 mod table;
 mod tally;
+mod timing;
 mod vectors;
 
 use request::Request;
