@@ -1,11 +1,12 @@
 // The class of a pair of legs: document 01's, over the source's `arcs_crossing`.
 ghost use mathlib.Core.Path.{_≡_};
 ghost use mathlib.Core.Bool.{true};
+ghost use mathlib.Core.List.{[], _∷_};
 ghost use lib.Ieee.{neg, lt};
-ghost use Rattle.sphericalpoint.specs.Vector.{xyzNeg};
+ghost use Rattle.sphericalpoint.specs.Vector.{xyzDot, xyzNeg};
 ghost use Rattle.arcstring.specs.Answer.{pick};
 ghost use Rattle.arcstring.specs.Check.{checkNumber};
-ghost use Rattle.arcstring_crossing.specs.Plane.{planeLeg, planeOf, planeSides, showsApart};
+ghost use Rattle.arcstring_crossing.specs.Plane.{planeLeg, planeOf, showsApart};
 ghost use Rattle.arcstring_crossing.specs.Crossing.{leg, legOf, grazes, isAbove, isBelow, signNegative, signPositive, someSide, everySide, atEnd, keptOrDropped, grazingOutcome, endOrClean, classAt, pairOf, legCheck, arcsCrossing, crossedAnswer};
 use arcstring::check;
 use arcstring::check::Checked;
@@ -81,14 +82,21 @@ pub(crate) fn plane_of(arc: [[f64; 3]; 2]) -> Plane
     }
 }
 
-fn side_values(a: Plane, b: Plane, t: SphericalPoint) -> [f64; 4]
-    ensures { λ r. ⌜ r ≡ planeSides a b t ⌝ }
+// The four side values of a pair of legs, by the two vectors of each and where their planes meet.
+pub(crate) fn side_values(
+    a_before: SphericalPoint,
+    a_after: SphericalPoint,
+    b_before: SphericalPoint,
+    b_after: SphericalPoint,
+    t: SphericalPoint,
+) -> [f64; 4]
+    ensures { λ r. ⌜ r ≡ xyzDot «a_before» t ∷ xyzDot «a_after» t ∷ xyzDot «b_before» t ∷ xyzDot «b_after» t ∷ [] ⌝ }
 {
     [
-        sphericalpoint::xyz_dot(a.before, t),
-        sphericalpoint::xyz_dot(a.after, t),
-        sphericalpoint::xyz_dot(b.before, t),
-        sphericalpoint::xyz_dot(b.after, t),
+        sphericalpoint::xyz_dot(a_before, t),
+        sphericalpoint::xyz_dot(a_after, t),
+        sphericalpoint::xyz_dot(b_before, t),
+        sphericalpoint::xyz_dot(b_after, t),
     ]
 }
 
@@ -304,7 +312,8 @@ pub(crate) fn planes_pair(a: Plane, b: Plane) -> Pair
     ensures { λ r. ⌜ r ≡ pairOf (planeLeg a) (planeLeg b) ⌝ }
 {
     let t = sphericalpoint::xyz_cross(a.normal, b.normal);
-    class_at(t, a.from, a.to, b.from, b.to, side_values(a, b, t))
+    let s = side_values(a.before, a.after, b.before, b.after, t);
+    class_at(t, a.from, a.to, b.from, b.to, s)
 }
 
 // The class of a pair of legs, each an array of two arrays of three.

@@ -81,12 +81,9 @@ pub(crate) fn pair_at(a: Plane, planes: &[f64], width: usize, v: &[f64], n: usiz
     ensures { λ r. ⌜ r ≡ pairOf (planeLeg a) (legAt (now (v .entry)) n k) ⌝ }
 {
     let t = sphericalpoint::xyz_cross(a.normal, run_at(planes, width, 0, k));
-    let s = [
-        sphericalpoint::xyz_dot(a.before, t),
-        sphericalpoint::xyz_dot(a.after, t),
-        sphericalpoint::xyz_dot(run_at(planes, width, 3, k), t),
-        sphericalpoint::xyz_dot(run_at(planes, width, 6, k), t),
-    ];
+    let before = run_at(planes, width, 3, k);
+    let after = run_at(planes, width, 6, k);
+    let s = crossing::side_values(a.before, a.after, before, after, t);
     let b0 = vertex::vertex_at(v, k);
     let b1 = vertex::vertex_at(v, leg_end(n, k));
     crossing::class_at(t, a.from, a.to, b0, b1, s)
@@ -99,12 +96,9 @@ fn flag_at(a: Plane, planes: &[f64], width: usize, k: usize) -> usize
     ensures { λ r. ⌜ (r ≤ 1) × ((x : Leg) → PlaneAt (now (planes .entry)) width k (planeOf x) → r ≡ 0 → Apart ≡ pairOf (planeLeg a) x) ⌝ }
 {
     let t = sphericalpoint::xyz_cross(a.normal, run_at(planes, width, 0, k));
-    let s = [
-        sphericalpoint::xyz_dot(a.before, t),
-        sphericalpoint::xyz_dot(a.after, t),
-        sphericalpoint::xyz_dot(run_at(planes, width, 3, k), t),
-        sphericalpoint::xyz_dot(run_at(planes, width, 6, k), t),
-    ];
+    let before = run_at(planes, width, 3, k);
+    let after = run_at(planes, width, 6, k);
+    let s = crossing::side_values(a.before, a.after, before, after, t);
     if crossing::shows_apart(s) { 0 } else { 1 }
 }
 

@@ -1,5 +1,4 @@
 -- The four side values. Assumes nothing.
-use Rattle.arcstring_crossing.specs.Plane.{planeSides}
 use borrow.Author.Needs.{needs}
 use Rattle.arcstring_crossing.proofs.crossing.side_values.Statement.{statement}
 use Rattle.arcstring_crossing.proofs.crossing.side_values.Tie as tie
@@ -17,7 +16,6 @@ xyz-dot-requires-4 : tie.Need-xyz-dot-requires-4
 xyz-dot-requires-4 c κs = search needs
 
 returns : tie.Need-returns
-unfolding planeSides
 returns c = cc
 
 pub side-values-spec : {M : Type 1} → statement M

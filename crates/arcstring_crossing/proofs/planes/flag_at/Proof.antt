@@ -1,7 +1,6 @@
 -- A flag is 0 only where the side values show that the pair is apart. Assumes nothing.
 use native.Mathlib.Omega.{arith}
 use mathlib.Core.Path.{_≡_, refl, _∙_}
-use mathlib.Core.List.{[], _∷_}
 use Rattle.arcstring_crossing.specs.Crossing.{Leg, classAt, pairOf}
 use Rattle.arcstring_crossing.specs.Plane.{planeLeg, planeOf, PlaneAt}
 use Rattle.arcstring_crossing.proofs.Aparts.{shows-apart}
@@ -11,11 +10,10 @@ use Rattle.arcstring_crossing.proofs.planes.flag_at.Statement.{statemen
 use Rattle.arcstring_crossing.proofs.planes.flag_at.Tie as tie
 
 -- the class by what is read is that of the pair with any leg whose plane stands there
-class : (q : tie.After-xyz-dot4) (x : Leg) → PlaneAt (q .before .before .before .before .before .before .before .before .before .args .planes .now) (q .before .before .before .before .before .before .before .before .before .args .width) (q .before .before .before .before .before .before .before .before .before .args .k) (planeOf x) → classAt (q .before .before .before .before .before .before .xyz-cross .result) (planeLeg (q .before .before .before .before .before .before .before .before .before .args .a)) x (q .before .before .before .before .before .xyz-dot .result ∷ q .before .before .before .before .xyz-dot2 .result ∷ q .before .before .xyz-dot3 .result ∷ q .xyz-dot4 .result ∷ []) ≡ pairOf (planeLeg (q .before .before .before .before .before .before .before .before .before .args .a)) x
+class : (q : tie.After-side-values) (x : Leg) → PlaneAt (q .before .before .before .before .before .before .args .planes .now) (q .before .before .before .before .before .before .args .width) (q .before .before .before .before .before .before .args .k) (planeOf x) → classAt (q .before .before .before .xyz-cross .result) (planeLeg (q .before .before .before .before .before .before .args .a)) x (q .side-values .result) ≡ pairOf (planeLeg (q .before .before .before .before .before .before .args .a)) x
 class q x h =
-    let s = q .before .before .before .before .before .before .before .before .before in
-    read-class (s .args .a) (planeOf x) x (s .args .planes .now) (s .args .width) (s .args .k) _ _ _ _ _ (s .pre .3) refl h (q .before .before .before .before .before .before .before .run-at .ensures) (q .before .before .before .run-at2 .ensures) (q .before .run-at3 .ensures) (q .before .before .before .before .before .before .xyz-cross .ensures)
-    (cc (q .before .before .before .before .before .xyz-dot .ensures, q .before .before .before .before .xyz-dot2 .ensures, q .before .before .xyz-dot3 .ensures, q .xyz-dot4 .ensures))
+    let s = q .before .before .before .before .before .before in
+    read-class (s .args .a) (planeOf x) x (s .args .planes .now) (s .args .width) (s .args .k) _ _ _ _ _ (s .pre .3) refl h (q .before .before .before .before .run-at .ensures) (q .before .before .run-at2 .ensures) (q .before .run-at3 .ensures) (q .before .before .before .xyz-cross .ensures) (q .side-values .ensures)
 
 run-at-requires : tie.Need-run-at-requires
 run-at-requires c κs = search needs
@@ -23,23 +21,14 @@ run-at-requires c κs = search needs
 xyz-cross-requires : tie.Need-xyz-cross-requires
 xyz-cross-requires c κs = search needs
 
-xyz-dot-requires : tie.Need-xyz-dot-requires
-xyz-dot-requires c κs = search needs
-
-xyz-dot-requires-2 : tie.Need-xyz-dot-requires-2
-xyz-dot-requires-2 c κs = search needs
-
 run-at-requires-2 : tie.Need-run-at-requires-2
 run-at-requires-2 c κs = search needs
-
-xyz-dot-requires-3 : tie.Need-xyz-dot-requires-3
-xyz-dot-requires-3 c κs = search needs
 
 run-at-requires-3 : tie.Need-run-at-requires-3
 run-at-requires-3 c κs = search needs
 
-xyz-dot-requires-4 : tie.Need-xyz-dot-requires-4
-xyz-dot-requires-4 c κs = search needs
+side-values-requires : tie.Need-side-values-requires
+side-values-requires c κs = search needs
 
 shows-apart-requires : tie.Need-shows-apart-requires
 shows-apart-requires c κs = search needs
@@ -56,12 +45,9 @@ flag-at-spec =
     (tie.spec
     run-at-requires
     xyz-cross-requires
-    xyz-dot-requires
-    xyz-dot-requires-2
     run-at-requires-2
-    xyz-dot-requires-3
     run-at-requires-3
-    xyz-dot-requires-4
+    side-values-requires
     shows-apart-requires
     returns
     returns-2)

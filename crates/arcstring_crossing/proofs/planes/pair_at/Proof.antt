@@ -1,7 +1,6 @@
 -- The class of a pair of legs, the second read from the planes that are kept. Assumes nothing.
 use native.Mathlib.Omega.{arith}
 use mathlib.Core.Path.{_≡_, refl, _∙_}
-use mathlib.Core.List.{[], _∷_}
 use Rattle.arcstring_crossing.specs.Crossing.{classAt, pairOf}
 use Rattle.arcstring_crossing.specs.Plane.{planeLeg, planeOf}
 use Rattle.arcstring_crossing.specs.Tally.{legAt}
@@ -11,11 +10,10 @@ use Rattle.arcstring_crossing.proofs.planes.pair_at.Statement.{statemen
 use Rattle.arcstring_crossing.proofs.planes.pair_at.Tie as tie
 
 -- the class by what is read is that of the pair
-class : (q : tie.After-xyz-dot4) → classAt (q .before .before .before .before .before .before .xyz-cross .result) (planeLeg (q .before .before .before .before .before .before .before .before .before .before .args .a)) (legAt (q .before .before .before .before .before .before .before .before .before .before .args .v .now) (q .before .before .before .before .before .before .before .before .before .before .args .n) (q .before .before .before .before .before .before .before .before .before .before .args .k)) (q .before .before .before .before .before .xyz-dot .result ∷ q .before .before .before .before .xyz-dot2 .result ∷ q .before .before .xyz-dot3 .result ∷ q .xyz-dot4 .result ∷ []) ≡ pairOf (planeLeg (q .before .before .before .before .before .before .before .before .before .before .args .a)) (legAt (q .before .before .before .before .before .before .before .before .before .before .args .v .now) (q .before .before .before .before .before .before .before .before .before .before .args .n) (q .before .before .before .before .before .before .before .before .before .before .args .k))
+class : (q : tie.After-side-values) → classAt (q .before .before .before .xyz-cross .result) (planeLeg (q .before .before .before .before .before .before .before .args .a)) (legAt (q .before .before .before .before .before .before .before .args .v .now) (q .before .before .before .before .before .before .before .args .n) (q .before .before .before .before .before .before .before .args .k)) (q .side-values .result) ≡ pairOf (planeLeg (q .before .before .before .before .before .before .before .args .a)) (legAt (q .before .before .before .before .before .before .before .args .v .now) (q .before .before .before .before .before .before .before .args .n) (q .before .before .before .before .before .before .before .args .k))
 class q =
-    let s = q .before .before .before .before .before .before .before .before .before .before in
-    read-class (s .args .a) (planeOf (legAt (s .args .v .now) (s .args .n) (s .args .k))) _ (s .args .planes .now) (s .args .width) (s .args .k) _ _ _ _ _ (s .pre .1 .0) refl (s .pre .1 .1) (q .before .before .before .before .before .before .before .run-at .ensures) (q .before .before .before .run-at2 .ensures) (q .before .run-at3 .ensures) (q .before .before .before .before .before .before .xyz-cross .ensures)
-    (cc (q .before .before .before .before .before .xyz-dot .ensures, q .before .before .before .before .xyz-dot2 .ensures, q .before .before .xyz-dot3 .ensures, q .xyz-dot4 .ensures))
+    let s = q .before .before .before .before .before .before .before in
+    read-class (s .args .a) (planeOf (legAt (s .args .v .now) (s .args .n) (s .args .k))) _ (s .args .planes .now) (s .args .width) (s .args .k) _ _ _ _ _ (s .pre .1 .0) refl (s .pre .1 .1) (q .before .before .before .before .run-at .ensures) (q .before .before .run-at2 .ensures) (q .before .run-at3 .ensures) (q .before .before .before .xyz-cross .ensures) (q .side-values .ensures)
 
 run-at-requires : tie.Need-run-at-requires
 run-at-requires c κs = search needs
@@ -23,39 +21,30 @@ run-at-requires c κs = search needs
 xyz-cross-requires : tie.Need-xyz-cross-requires
 xyz-cross-requires c κs = search needs
 
-xyz-dot-requires : tie.Need-xyz-dot-requires
-xyz-dot-requires c κs = search needs
-
-xyz-dot-requires-2 : tie.Need-xyz-dot-requires-2
-xyz-dot-requires-2 c κs = search needs
-
 run-at-requires-2 : tie.Need-run-at-requires-2
 run-at-requires-2 c κs = search needs
-
-xyz-dot-requires-3 : tie.Need-xyz-dot-requires-3
-xyz-dot-requires-3 c κs = search needs
 
 run-at-requires-3 : tie.Need-run-at-requires-3
 run-at-requires-3 c κs = search needs
 
-xyz-dot-requires-4 : tie.Need-xyz-dot-requires-4
-xyz-dot-requires-4 c κs = search needs
+side-values-requires : tie.Need-side-values-requires
+side-values-requires c κs = search needs
 
 vertex-at-requires : tie.Need-vertex-at-requires
 vertex-at-requires c κs = search needs
 
 leg-end-requires : tie.Need-leg-end-requires
-leg-end-requires c κs = c .before .before .before .before .before .before .before .before .before .before .before .pre .0 .1
+leg-end-requires c κs = c .before .before .before .before .before .before .before .before .pre .0 .1
 
 vertex-at-requires-2 : tie.Need-vertex-at-requires-2
-vertex-at-requires-2 c κs = omega (arith, c .before .before .before .before .before .before .before .before .before .before .before .before .pre .0, c .leg-end .ensures .0)
+vertex-at-requires-2 c κs = omega (arith, c .before .before .before .before .before .before .before .before .before .pre .0, c .leg-end .ensures .0)
 
 class-at-requires : tie.Need-class-at-requires
 class-at-requires c κs = search needs
 
 returns : tie.Need-returns
 returns c = let q = c .before .before .before .before in
-    class-of-leg _ _ _ _ _ _ _ _ _ (c .class-at .ensures) (c .before .before .before .vertex-at .ensures) (c .before .vertex-at2 .ensures) (c .before .before .leg-end .ensures .1 (c .before .before .before .before .before .before .before .before .before .before .before .before .before .before .args .v .now)) ∙ class q
+    class-of-leg _ _ _ _ _ _ _ _ _ (c .class-at .ensures) (c .before .before .before .vertex-at .ensures) (c .before .vertex-at2 .ensures) (c .before .before .leg-end .ensures .1 (c .before .before .before .before .before .before .before .before .before .before .before .args .v .now)) ∙ class q
 
 pub pair-at-spec : {M : Type 1} → statement M
 pair-at-spec =
@@ -63,12 +52,9 @@ pair-at-spec =
     (tie.spec
     run-at-requires
     xyz-cross-requires
-    xyz-dot-requires
-    xyz-dot-requires-2
     run-at-requires-2
-    xyz-dot-requires-3
     run-at-requires-3
-    xyz-dot-requires-4
+    side-values-requires
     vertex-at-requires
     leg-end-requires
     vertex-at-requires-2
