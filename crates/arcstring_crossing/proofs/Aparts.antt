@@ -1,4 +1,5 @@
--- Side values of which none grazes, with both signs among them, show that a pair is apart; and where they have one sign, which point the class is of. Assumes nothing.
+-- Side values of which none grazes, with both signs among them, show that a pair is apart; and where they have one sign, which point the class is of. Assumes
+-- nothing.
 use mathlib.Core.Path.{_≡_, refl, sym, ap, ap₂, _∙_}
 use mathlib.Core.Bool.{Bool, true, false, not, _&&_, _||_}
 use mathlib.Core.List.{List, [], _∷_}
@@ -49,7 +50,8 @@ some-after f x s h = go (f x)
     go true = refl
     go false = h
 
-picked-of-four : (f : Float → Bool) (a b c : Bool) (s0 s1 s2 s3 : Float) → f (pick c (pick a s0 s1) (pick b s2 s3)) ≡ true → someSide f (s0 ∷ s1 ∷ s2 ∷ s3 ∷ []) ≡ true
+picked-of-four : (f : Float → Bool) (a b c : Bool) (s0 s1 s2 s3 : Float) → f (pick c (pick a s0 s1) (pick b s2 s3)) ≡ true
+    → someSide f (s0 ∷ s1 ∷ s2 ∷ s3 ∷ []) ≡ true
 picked-of-four f true b true s0 s1 s2 s3 h = some-at f s0 _ h
 picked-of-four f false b true s0 s1 s2 s3 h = some-after f s0 _ (some-at f s1 _ h)
 picked-of-four f a true false s0 s1 s2 s3 h = some-after f s0 _ (some-after f s1 _ (some-at f s2 _ h))
@@ -132,11 +134,13 @@ module _ (t : SphericalPoint) (a b : Leg) (s : List Float) where
   signs-class r u true below h i j o e k = above-class t a b s r h (sym i) (k ∙ ap (λ (p : SphericalPoint). endOrClean p a b) e)
   signs-class r u false below h i j o e k = below-class t a b s r u h (sym i) (sym j ∙ o) e k
 
-  pub no-signs-class : (above below : Bool) → someSide grazes s ≡ false → above ≡ everySide isAbove s → below ≡ everySide isBelow s → (above || below) ≡ false → Apart ≡ classAt t a b s
+  pub no-signs-class : (above below : Bool) → someSide grazes s ≡ false → above ≡ everySide isAbove s → below ≡ everySide isBelow s → (above || below) ≡ false
+      → Apart ≡ classAt t a b s
   no-signs-class true below h i j o = no (sym o)
   no-signs-class false below h i j o = apart-class t a b s h (sym i) (sym j ∙ o)
 
-pub turned-point : (keep : Bool) (t : SphericalPoint) (x y z : Float) → x ≡ pick keep (t .x) (neg (t .x)) → y ≡ pick keep (t .y) (neg (t .y)) → z ≡ pick keep (t .z) (neg (t .z))
+pub turned-point : (keep : Bool) (t : SphericalPoint) (x y z : Float) → x ≡ pick keep (t .x) (neg (t .x)) → y ≡ pick keep (t .y) (neg (t .y)) → z
+    ≡ pick keep (t .z) (neg (t .z))
     → point x y z ≡ pick keep t (xyzNeg t)
 unfolding xyzNeg
 turned-point true t x y z hx hy hz = rw (hx, hy, hz)

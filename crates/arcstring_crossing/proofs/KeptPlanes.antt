@@ -13,7 +13,6 @@ use lib.Seq.{getD-set-same, getD-set-other}
 use lib.Ieee.{Float, nan}
 use Rattle.sphericalpoint.specs.declared.SphericalPoint.{SphericalPoint}
 use Rattle.sphericalpoint.specs.Vector.{xyzCross, xyzDot}
-use Rattle.arcstring.specs.Points.{point}
 use Rattle.arcstring_crossing.specs.declared.crossing.Pair.{Pair}
 use Rattle.arcstring_crossing.specs.declared.crossing.Pair.the-variants.{Apart}
 use Rattle.arcstring_crossing.specs.declared.crossing.Plane.{Plane}
@@ -51,8 +50,10 @@ module _ (old : List Float) (w j k : ℕ) (p : SphericalPoint) (at : k < w) (fit
   unfolding putRun
   other-place i m h differ =
       let z : j + 0 ≡ j = omega arith in
-      getD-set-other (set (set old (j * w + k) (p .x)) ((j + 1) * w + k) (p .y)) ((j + 2) * w + k) (i * w + m) (p .z) nan (λ e. let q = places w i (j + 2) m k h at e in differ 2 (omega arith) (q .0) (q .1))
-      ∙ getD-set-other (set old (j * w + k) (p .x)) ((j + 1) * w + k) (i * w + m) (p .y) nan (λ e. let q = places w i (j + 1) m k h at e in differ 1 (omega arith) (q .0) (q .1))
+      getD-set-other (set (set old (j * w + k) (p .x)) ((j + 1) * w + k) (p .y)) ((j + 2) * w + k) (i * w + m) (p .z) nan
+      (λ e. let q = places w i (j + 2) m k h at e in differ 2 (omega arith) (q .0) (q .1))
+      ∙ getD-set-other (set old (j * w + k) (p .x)) ((j + 1) * w + k) (i * w + m) (p .y) nan
+      (λ e. let q = places w i (j + 1) m k h at e in differ 1 (omega arith) (q .0) (q .1))
       ∙ getD-set-other old (j * w + k) (i * w + m) (p .x) nan (λ e. let q = places w i j m k h at e in differ 0 (omega arith) (q .0 ∙ sym z) (q .1))
 
   -- other vectors stay
@@ -74,7 +75,13 @@ module _ (old : List Float) (w j k : ℕ) (p : SphericalPoint) (at : k < w) (fit
       let z : j + 0 ≡ j = omega arith in
       let r0 : j * w + k < length old = omega (arith, room-in-run 0 (omega arith), ap (λ (n : ℕ). n * w) z) in
       let r1 : (j + 1) * w + k < length l1 = omega (arith, room-in-run 1 (omega arith), length-set old (j * w + k) (p .x)) in
-      let r2 : (j + 2) * w + k < length l2 = omega (arith, room-in-run 2 (omega arith), length-set old (j * w + k) (p .x), length-set l1 ((j + 1) * w + k) (p .y)) in
+      let r2 : (j + 2) * w + k < length l2 = omega (
+        arith,
+        room-in-run 2 (omega arith),
+        length-set old (j * w + k) (p .x),
+        length-set l1 ((j + 1) * w + k)
+            (p .y),
+      ) in
       let e0 : getD (set l2 ((j + 2) * w + k) (p .z)) (j * w + k) nan ≡ p .x
       = getD-set-other l2 ((j + 2) * w + k) (j * w + k) (p .z) nan (λ e. absurd (omega (arith, places w j (j + 2) k k at at e .0)))
       ∙ getD-set-other l1 ((j + 1) * w + k) (j * w + k) (p .y) nan (λ e. absurd (omega (arith, places w j (j + 1) k k at at e .0)))
@@ -152,14 +159,18 @@ plane-as planes w k p q e h =
       after-at = h .after-at ∙ ap (λ (r : Plane). r .after) e;
     }
 
-pub planes-next : (v : List Float) (n : ℕ) (old new : List Float) (w k : ℕ) (p : Plane) → ((j : ℕ) → j < k → PlaneAt old w j (planeOf (legAt v n j))) → p ≡ planeOf (legAt v n k)
-    → PlaneAt new w k p × ((j : ℕ) → j < k → (q : Plane) → PlaneAt old w j q → PlaneAt new w j q) → (j : ℕ) → j < k + 1 → PlaneAt new w j (planeOf (legAt v n j))
+pub planes-next : (v : List Float) (n : ℕ) (old new : List Float) (w k : ℕ) (p : Plane) → ((j : ℕ) → j < k → PlaneAt old w j (planeOf (legAt v n j))) → p
+    ≡ planeOf (legAt v n k)
+    → PlaneAt new w k p × ((j : ℕ) → j < k → (q : Plane) → PlaneAt old w j q → PlaneAt new w j q) → (j : ℕ) → j < k + 1
+    → PlaneAt new w j (planeOf (legAt v n j))
 planes-next v n old new w k p all e s =
-    below-more (λ (j : ℕ). PlaneAt new w j (planeOf (legAt v n j))) k (λ j h. s .1 j h (planeOf (legAt v n j)) (all j h)) (plane-as new w k p (planeOf (legAt v n k)) e (s .0))
+    below-more (λ (j : ℕ). PlaneAt new w j (planeOf (legAt v n j))) k (λ j h. s .1 j h (planeOf (legAt v n j)) (all j h))
+    (plane-as new w k p (planeOf (legAt v n k)) e (s .0))
 
 -- ---- the class of a pair, by what is read of the second leg
 
-pub read-class : (a b : Plane) (x : Leg) (planes : List Float) (w k : ℕ) (t n2 b2 a2 : SphericalPoint) (s : List Float) → a ≡ planeOf (planeLeg a) → b ≡ planeOf x → PlaneAt planes w k b
+pub read-class : (a b : Plane) (x : Leg) (planes : List Float) (w k : ℕ) (t n2 b2 a2 : SphericalPoint) (s : List Float) → a ≡ planeOf (planeLeg a) → b
+    ≡ planeOf x → PlaneAt planes w k b
     → n2 ≡ runAt planes w 0 k → b2 ≡ runAt planes w 3 k → a2 ≡ runAt planes w 6 k
     → t ≡ xyzCross (a .normal) n2 → s ≡ xyzDot (a .before) t ∷ xyzDot (a .after) t ∷ xyzDot b2 t ∷ xyzDot a2 t ∷ []
     → classAt t (planeLeg a) x s ≡ pairOf (planeLeg a) x
@@ -168,10 +179,12 @@ read-class a b x planes w k t n2 b2 a2 s ha hb at hn hbef haft ht hs =
     let same : planeLeg b ≡ x = ap planeLeg hb in
     ap (λ (l : Leg). classAt t (planeLeg a) l s) (sym same)
     ∙ planes-class a b t s ha (hb ∙ ap planeOf (sym same)) (ht ∙ ap (xyzCross (a .normal)) (hn ∙ at .normal-at))
-    (hs ∙ ap₂ (λ (u w : SphericalPoint). xyzDot (a .before) t ∷ xyzDot (a .after) t ∷ xyzDot u t ∷ xyzDot w t ∷ []) (hbef ∙ at .before-at) (haft ∙ at .after-at))
+    (hs ∙ ap₂ (λ (u w : SphericalPoint). xyzDot (a .before) t ∷ xyzDot (a .after) t ∷ xyzDot u t ∷ xyzDot w t ∷ []) (hbef ∙ at .before-at)
+    (haft ∙ at .after-at))
     ∙ ap (pairOf (planeLeg a)) same
 
-pub class-of-leg : (t : SphericalPoint) (a : Leg) (b0 b1 p0 p1 : SphericalPoint) (x : Leg) (s : List Float) (r : Pair) → r ≡ classAt t a (leg b0 b1) s → b0 ≡ p0 → b1 ≡ p1 → leg p0 p1 ≡ x
+pub class-of-leg : (t : SphericalPoint) (a : Leg) (b0 b1 p0 p1 : SphericalPoint) (x : Leg) (s : List Float) (r : Pair) → r ≡ classAt t a (leg b0 b1) s → b0
+    ≡ p0 → b1 ≡ p1 → leg p0 p1 ≡ x
     → r ≡ classAt t a x s
 class-of-leg t a b0 b1 p0 p1 x s r h h0 h1 e = h ∙ ap (λ (l : Leg). classAt t a l s) (ap₂ leg h0 h1 ∙ e)
 
@@ -179,14 +192,17 @@ class-of-leg t a b0 b1 p0 p1 x s r h h0 h1 e = h ∙ ap (λ (l : Leg). classAt t
 
 module _ (a : Leg) (planes : List Float) (w from k : ℕ) where
   -- one more pair that is apart, where its flag is 0
-  pub aparts-next : (found f : ℕ) → (found ≡ 0 → AllApart a planes w from k) → ((x : Leg) → PlaneAt planes w k (planeOf x) → f ≡ 0 → Apart ≡ pairOf a x) → found + f ≡ 0 → AllApart a planes w from (k + 1)
+  pub aparts-next : (found f : ℕ) → (found ≡ 0 → AllApart a planes w from k) → ((x : Leg) → PlaneAt planes w k (planeOf x) → f ≡ 0 → Apart ≡ pairOf a x)
+      → found + f ≡ 0 → AllApart a planes w from (k + 1)
   aparts-next found f all here z =
       let o = all (omega arith) in
       let e : f ≡ 0 = omega arith in
-      let more = below-more (λ (j : ℕ). from ≤ j → (x : Leg) → PlaneAt planes w j (planeOf x) → Apart ≡ pairOf a x) k (λ j h i x q. o .each j i h x q) (λ i x q. here x q e) in
+      let more = below-more (λ (j : ℕ). from ≤ j → (x : Leg) → PlaneAt planes w j (planeOf x) → Apart ≡ pairOf a x) k (λ j h i x q. o .each j i h x q)
+      (λ i x q. here x q e) in
       record { each = λ j i h x q. more j h i x q }
 
-  pub flags-next : (flags : List ℕ) (f : ℕ) → k < length flags → FlagsOf a planes w from k flags → ((x : Leg) → PlaneAt planes w k (planeOf x) → f ≡ 0 → Apart ≡ pairOf a x)
+  pub flags-next : (flags : List ℕ) (f : ℕ) → k < length flags → FlagsOf a planes w from k flags
+      → ((x : Leg) → PlaneAt planes w k (planeOf x) → f ≡ 0 → Apart ≡ pairOf a x)
       → FlagsOf a planes w from (k + 1) (set flags k f)
   flags-next flags f fits old here =
       let more =

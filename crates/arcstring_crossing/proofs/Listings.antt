@@ -23,7 +23,19 @@ use Rattle.arcstring.proofs.Splices.{splice-start, splice-front, splice-nothing
 use Rattle.arcstring_crossing.specs.declared.crossing.Pair.{Pair}
 use Rattle.arcstring_crossing.specs.declared.listing.Counts.{Counts}
 use Rattle.arcstring_crossing.specs.declared.tally.Tally.{Tally}
-use Rattle.arcstring_crossing.specs.Listing.{keptMarks, markPoint, markByte, countsOf, Listing, listingOf, normalizedListing, inRoom, listedResult, listedFloats, listedBytes}
+use Rattle.arcstring_crossing.specs.Listing.{
+  keptMarks,
+  markPoint,
+  markByte,
+  countsOf,
+  Listing,
+  listingOf,
+  normalizedListing,
+  inRoom,
+  listedResult,
+  listedFloats,
+  listedBytes,
+}
 use Rattle.arcstring_crossing.specs.Tally.{noTally, tallyOn, tallyCounts}
 use Rattle.arcstring_crossing.proofs.Tallies.{tally-kept, tally-counts}
 
@@ -38,13 +50,22 @@ pub refused-leaves : (n : ℕ) (x : Answer Listing) (points : List Float) (marks
 refused-leaves n x points marks h =
     (ap listedResult h, (ap (λ (y : Answer Listing). leaves (listedFloats y) points) h, ap (λ (y : Answer Listing). leaves (listedBytes y) marks) h))
 
-pub leaves-as : (x y : Answer Listing) (r : Answer (ℕ × Counts)) (points points' : List Float) (marks marks' : List ℕ) → x ≡ y → Leaves x r points points' marks marks' → Leaves y r points points' marks marks'
+pub leaves-as : (x y : Answer Listing) (r : Answer (ℕ × Counts)) (points points' : List Float) (marks marks' : List ℕ) → x ≡ y
+    → Leaves x r points points' marks marks' → Leaves y r points points' marks marks'
 leaves-as x y r points points' marks marks' h l = rw h at l
 
-written-leaves : (l : Listing) (x : Answer Listing) (kept : ℕ) (c : Counts) (points points' : List Float) (marks marks' : List ℕ) → answered l ≡ x → kept ≡ length (l .marks) → c ≡ l .counts
-    → points' ≡ splice points 0 (flat (map markPoint (l .marks))) → marks' ≡ splice marks 0 (map markByte (l .marks)) → Leaves x (answered (kept, c)) points points' marks marks'
-written-leaves l x kept c points points' marks marks' h hk hc hp hm =
-    (ap₂ (λ (k : ℕ) (d : Counts). answered (k, d)) hk hc ∙ ap listedResult h, (hp ∙ splice-start points (flat (map markPoint (l .marks))) ∙ ap (λ (y : Answer Listing). leaves (listedFloats y) points) h, hm ∙ splice-start marks (map markByte (l .marks)) ∙ ap (λ (y : Answer Listing). leaves (listedBytes y) marks) h))
+written-leaves : (l : Listing) (x : Answer Listing) (kept : ℕ) (c : Counts) (points points' : List Float) (marks marks' : List ℕ) → answered l ≡ x → kept
+    ≡ length (l .marks) → c ≡ l .counts
+    → points' ≡ splice points 0 (flat (map markPoint (l .marks))) → marks' ≡ splice marks 0 (map markByte (l .marks))
+    → Leaves x (answered (kept, c)) points points' marks marks'
+written-leaves l x kept c points points' marks marks' h hk hc hp hm = (
+  ap₂ (λ (k : ℕ) (d : Counts). answered (k, d)) hk hc ∙ ap listedResult h,
+  (
+    hp ∙ splice-start points (flat (map markPoint (l .marks))) ∙ ap (λ (y : Answer Listing). leaves (listedFloats y) points) h,
+    hm
+        ∙ splice-start marks (map markByte (l .marks)) ∙ ap (λ (y : Answer Listing). leaves (listedBytes y) marks) h,
+  ),
+)
 
 -- ---- the listing of pairs, as they are or with its points normalised
 
@@ -69,14 +90,16 @@ unfolding listingOf normalizedListing
 normalized-bytes ps = sym (map-map markByte _ (keptMarks ps))
 
 -- the kept points at the start of a buffer, normalised where they stand
-pub normalized-in-place : (ps : List Pair) (n : ℕ) (old mid last : List Float) → n ≡ length (keptMarks ps) → mid ≡ splice old 0 (flat (map markPoint (keptMarks ps)))
+pub normalized-in-place : (ps : List Pair) (n : ℕ) (old mid last : List Float) → n ≡ length (keptMarks ps) → mid
+    ≡ splice old 0 (flat (map markPoint (keptMarks ps)))
     → last ≡ flat (normalizedAll (points (take (3 * n) mid))) ++ drop (3 * n) mid → last ≡ splice old 0 (flat (normalizedAll (map markPoint (keptMarks ps))))
 normalized-in-place ps n old mid last h first second =
     let qs = map markPoint (keptMarks ps) in
     let c : length qs ≡ n = length-map (keptMarks ps) markPoint ∙ sym h in
     let e : length (flat qs) ≡ 3 * n = length-flat qs ∙ ap (λ (k : ℕ). 3 * k) c in
     let m : mid ≡ flat qs ++ drop (3 * n) old = first ∙ splice-front old (3 * n) (flat qs) e in
-    let t : points (take (3 * n) mid) ≡ qs = ap (λ (l : List Float). points (take (3 * n) l)) m ∙ ap points (take-at (flat qs) (drop (3 * n) old) (3 * n) e) ∙ points-flat qs in
+    let t : points (take (3 * n) mid) ≡ qs = ap (λ (l : List Float). points (take (3 * n) l)) m ∙ ap points (take-at (flat qs) (drop (3 * n) old) (3 * n) e)
+    ∙ points-flat qs in
     let d : drop (3 * n) mid ≡ drop (3 * n) old = ap (drop (3 * n)) m ∙ drop-at (flat qs) (drop (3 * n) old) (3 * n) e in
     let k : length (flat (normalizedAll qs)) ≡ 3 * n = length-flat (normalizedAll qs) ∙ ap (λ (j : ℕ). 3 * j) (length-map qs normalizedUnlessShort ∙ c) in
     second ∙ ap₂ (λ (rs : List SphericalPoint) (r : List Float). flat (normalizedAll rs) ++ r) t d ∙ sym (splice-front old (3 * n) (flat (normalizedAll qs)) k)
@@ -87,14 +110,17 @@ none-normalized ps points marks h = rw h (sym (splice-nothing points 0), sym (sp
 
 -- ---- where there is room in any case, one walk counts and writes
 
-pub fitting-leaves : (ps : List Pair) (l : Listing) (lists : Lists ps l) (t : Tally) (c : Counts) (x : Answer Listing) (points points' : List Float) (marks marks' : List ℕ) → t ≡ tallyOn noTally ps
+pub fitting-leaves : (ps : List Pair) (l : Listing) (lists : Lists ps l) (t : Tally) (c : Counts) (x : Answer Listing) (points points' : List Float)
+    (marks marks' : List ℕ) → t ≡ tallyOn noTally ps
     → (3 * length (keptMarks ps) ≤ length points) × (length (keptMarks ps) ≤ length marks) → inRoom l (length points) (length marks) ≡ x → c ≡ tallyCounts t
-    → points' ≡ splice points 0 (flat (map markPoint (l .marks))) → marks' ≡ splice marks 0 (map markByte (l .marks)) → Leaves x (answered (t .kept, c)) points points' marks marks'
+    → points' ≡ splice points 0 (flat (map markPoint (l .marks))) → marks' ≡ splice marks 0 (map markByte (l .marks))
+    → Leaves x (answered (t .kept, c)) points points' marks marks'
 unfolding inRoom
 fitting-leaves ps l lists t c x points points' marks marks' count room h hc hp hm =
     let e = lists .as-many in
     written-leaves l x (t .kept) c points points' marks marks'
-    (sym (pass (roomCheck (3 * length (l .marks)) (length points)) (unlessRefused (roomCheck (length (l .marks)) (length marks)) (answered l)) (room-enough (3 * length (l .marks)) (length points) (omega arith))
+    (sym (pass (roomCheck (3 * length (l .marks)) (length points)) (unlessRefused (roomCheck (length (l .marks)) (length marks)) (answered l))
+    (room-enough (3 * length (l .marks)) (length points) (omega arith))
     ∙ pass (roomCheck (length (l .marks)) (length marks)) (answered l) (room-enough (length (l .marks)) (length marks) (omega arith)))
     ∙ h)
     (tally-kept t ps count ∙ sym e)
@@ -112,18 +138,23 @@ module _ (ps : List Pair) (l : Listing) (lists : Lists ps l) (t : Tally) (count 
   room-number : checkNumber k ≡ firstOf (roomCheck (3 * length (l .marks)) (length points)) (roomCheck (length (l .marks)) (length marks))
   room-number = number ∙ ap (λ (n : ℕ). firstOf (roomCheck (3 * n) (length points)) (roomCheck n (length marks))) kept-all
 
-  pub no-room-leaves : (e : Refusal) (x : Answer Listing) → inRoom l (length points) (length marks) ≡ x → k ≡ Refused e → Leaves x (refused (refusalNumber e)) points points marks marks
+  pub no-room-leaves : (e : Refusal) (x : Answer Listing) → inRoom l (length points) (length marks) ≡ x → k ≡ Refused e
+      → Leaves x (refused (refusalNumber e)) points points marks marks
   unfolding inRoom
   no-room-leaves e x h told =
       refused-leaves (refusalNumber e) x points marks
-      (answer-refused-first k e (roomCheck (3 * length (l .marks)) (length points)) (roomCheck (length (l .marks)) (length marks)) (answered l) told room-number ∙ h)
+      (answer-refused-first k e (roomCheck (3 * length (l .marks)) (length points)) (roomCheck (length (l .marks)) (length marks)) (answered l) told
+      room-number ∙ h)
 
-  pub listing-leaves : (c : Counts) (x : Answer Listing) (points' : List Float) (marks' : List ℕ) → inRoom l (length points) (length marks) ≡ x → k ≡ Accepted → c ≡ tallyCounts t
-      → points' ≡ splice points 0 (flat (map markPoint (l .marks))) → marks' ≡ splice marks 0 (map markByte (l .marks)) → Leaves x (answered (t .kept, c)) points points' marks marks'
+  pub listing-leaves : (c : Counts) (x : Answer Listing) (points' : List Float) (marks' : List ℕ) → inRoom l (length points) (length marks) ≡ x → k ≡ Accepted
+      → c ≡ tallyCounts t
+      → points' ≡ splice points 0 (flat (map markPoint (l .marks))) → marks' ≡ splice marks 0 (map markByte (l .marks))
+      → Leaves x (answered (t .kept, c)) points points' marks marks'
   unfolding inRoom
   listing-leaves c x points' marks' h told hc hp hm =
       written-leaves l x (t .kept) c points points' marks marks'
-      (answer-accepted-first k (roomCheck (3 * length (l .marks)) (length points)) (roomCheck (length (l .marks)) (length marks)) (answered l) told room-number ∙ h)
+      (answer-accepted-first k (roomCheck (3 * length (l .marks)) (length points)) (roomCheck (length (l .marks)) (length marks)) (answered l) told
+      room-number ∙ h)
       kept-all
       (hc ∙ tally-counts t ps count ∙ sym (lists .same-counts))
       hp

@@ -157,9 +157,6 @@ module _ (ps qs : List Pair) (same : ps ≡ qs) (points : List Float) (marks : L
       → (3 * length (keptMarks ps) ≤ length points) × (length (keptMarks ps) ≤ length marks)
   room-of r = let e = ap (λ (l : List Pair). length (keptMarks l)) same in (omega arith, omega arith)
 
-  pub kept-of : (kept : ℕ) → kept ≡ length (keptMarks qs) → kept ≡ length (keptMarks ps)
-  kept-of kept h = h ∙ sym (ap (λ (l : List Pair). length (keptMarks l)) same)
-
   pub written-of : (points' : List Float) (marks' : List ℕ) → (points' ≡ splice points 0 (pointsOf ps)) × (marks' ≡ splice marks 0 (bytesOf ps))
       → (points' ≡ splice points 0 (pointsOf qs)) × (marks' ≡ splice marks 0 (bytesOf qs))
   written-of points' marks' w = (w .0 ∙ ap (λ (l : List Pair). splice points 0 (pointsOf l)) same, w .1 ∙ ap (λ (l : List Pair). splice marks 0 (bytesOf l)) same)

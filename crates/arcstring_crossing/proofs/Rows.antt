@@ -18,7 +18,8 @@ use Rattle.arcstring_crossing.proofs.Tallies.{kept-bound}
 -- ---- one more: with the leg at a position, as the code has it
 
 module _ (v : List Float) (n : ℕ) (whole : length v ≡ 3 * n) where
-  pub row-next : (a x : Leg) (p : Pair) (k to : ℕ) → k < to → to ≤ n → x ≡ legAt v n k → p ≡ pairOf a x → rowPairs a v k to ≡ (p ∷ []) ++ rowPairs a v (k + 1) to
+  pub row-next : (a x : Leg) (p : Pair) (k to : ℕ) → k < to → to ≤ n → x ≡ legAt v n k → p ≡ pairOf a x → rowPairs a v k to
+      ≡ (p ∷ []) ++ rowPairs a v (k + 1) to
   unfolding rowPairs
   row-next a x p k to h l hx hp =
       ap (map (pairOf a)) (legs-step v n whole k to h l) ∙ ap (λ (q : Pair). q ∷ map (pairOf a) (legsFrom v (k + 1) to)) (sym (hp ∙ ap (pairOf a) hx))
@@ -28,7 +29,8 @@ module _ (v : List Float) (n : ℕ) (whole : length v ≡ 3 * n) where
   unfolding pairsBetween rowPairs
   between-next x b lb i to h l hx =
       let bs = legsFrom b 0 lb in
-      ap (λ (ls : List Leg). pairsBetween ls bs) (legs-step v n whole i to h l) ∙ ap (λ (y : Leg). map (pairOf y) bs ++ pairsBetween (legsFrom v (i + 1) to) bs) (sym hx)
+      ap (λ (ls : List Leg). pairsBetween ls bs) (legs-step v n whole i to h l)
+      ∙ ap (λ (y : Leg). map (pairOf y) bs ++ pairsBetween (legsFrom v (i + 1) to) bs) (sym hx)
 
   pub within-next : (x : Leg) (i to : ℕ) → i < to → to ≤ n → x ≡ legAt v n i
       → pairsWithin (legsFrom v i to) ≡ rowPairs x v (i + 2) to ++ pairsWithin (legsFrom v (i + 1) to)
@@ -53,10 +55,6 @@ within-none v i to h = ap pairsWithin (legs-none v i to h)
 
 -- ---- how many
 
-pub row-few : (a : Leg) (v : List Float) (from to : ℕ) → length (rowPairs a v from to) ≤ to
-unfolding rowPairs
-row-few a v from to = rw (length-map (legsFrom v from to) (pairOf a)) (omega (arith, legs-few v from to))
-
 length-between : (ls bs : List Leg) → length (pairsBetween ls bs) ≡ length ls * length bs
 unfolding pairsBetween
 length-between [] bs = sym (zero-mul (length bs))
@@ -67,8 +65,16 @@ length-within : (ls : List Leg) → length (pairsWithin ls) ≤ length ls * leng
 unfolding pairsWithin
 length-within [] = omega arith
 length-within (a ∷ ls) =
-    omega
-    (arith, length-append (map (pairOf a) (drop 1 ls)) (pairsWithin ls), length-map (drop 1 ls) (pairOf a), length-drop 1 ls, length-within ls, suc-mul (length ls) (suc (length ls)), mul-suc (length ls) (length ls))
+    omega (
+      arith,
+      length-append (map (pairOf a) (drop 1 ls)) (pairsWithin ls),
+      length-map (drop 1 ls) (pairOf a),
+      length-drop 1 ls,
+      length-within ls,
+      suc-mul
+          (length ls) (suc (length ls)),
+      mul-suc (length ls) (length ls),
+    )
 
 pub product-small : (i j : ℕ) → i ≤ 1024 → j ≤ 1024 → i * j ≤ 1048576
 product-small i j h l = le-trans (mul-le-mul-right j h) (mul-le-mul-left 1024 l)

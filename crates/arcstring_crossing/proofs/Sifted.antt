@@ -9,7 +9,7 @@ use borrow.Author.Count.{below-more}
 use borrow.Author.Tests.{eqb-true}
 use lib.Dec.{eqb}
 use native.Mathlib.Nat.{add-zero}
-use lib.ListN.{length, getD, set, take, drop, replicate, length-map, length-replicate}
+use lib.ListN.{length, getD, set, take, replicate, length-map, length-replicate}
 use lib.Seq.{getD-set-same, getD-set-other, take-set-le, take-suc-set, drop-cons, length-take-le}
 use lib.Ieee.{Float}
 use Rattle.arcstring.specs.Answer.{pick}
@@ -51,7 +51,8 @@ module _ (flags : List ℕ) (to k n : ℕ) (flagged : List ℕ) (more : k < to) 
       go false e q =
           rw (e, add-one n, take-suc-set flagged n k room) (append-assoc (take n flagged) (k ∷ []) (flaggedFrom flags (k + 1) (to - (k + 1))) ∙ q)
 
-  pub gathered-below : (r : ℕ) → r ≡ pick (eqb (getD flags k 0) 0) n (n + 1) → ((j : ℕ) → j < n → getD flagged j 0 < to) → (j : ℕ) → j < r → getD (set flagged n k) j 0 < to
+  pub gathered-below : (r : ℕ) → r ≡ pick (eqb (getD flags k 0) 0) n (n + 1) → ((j : ℕ) → j < n → getD flagged j 0 < to) → (j : ℕ) → j < r
+      → getD (set flagged n k) j 0 < to
   gathered-below r hr all-below j h =
       let below = below-more (λ (i : ℕ). getD (set flagged n k) i 0 < to) n
       (λ i l. rw (getD-set-other flagged n i k 0 (λ e. absurd (omega arith))) (all-below i l))
@@ -99,7 +100,8 @@ module _ {ps qs : List Pair} {m : ℕ} (s : Sifted ps qs m) where
   pub sifted-room : (write : Bool) (at : ℕ) (points : List Float) (marks : List ℕ) → RoomIf write ps at points marks → RoomIf write qs at points marks
   sifted-room write at points marks r = record { fits = λ o. rw (← sifted-kept s) (r .fits o) }
 
-  pub sifted-written : (write : Bool) (at : ℕ) (points : List Float) (marks : List ℕ) (points' : List Float) (marks' : List ℕ) → WrittenIf write qs at points marks points' marks'
+  pub sifted-written : (write : Bool) (at : ℕ) (points : List Float) (marks : List ℕ) (points' : List Float) (marks' : List ℕ)
+      → WrittenIf write qs at points marks points' marks'
       → WrittenIf write ps at points marks points' marks'
   sifted-written write at points marks points' marks' w = record { on = λ o. rw (sifted-kept s) (w .on o); off = w .off }
 
@@ -108,14 +110,16 @@ same-place : (t u : Tally) (m : ℕ) → u ≡ tallyOn t (replicate m Apart) →
 unfolding tallyOn
 same-place t u m h = ap (λ (x : Tally). x .kept) h ∙ rw (aparts-keep-none m) (add-zero (t .kept))
 
-pub sum-with-rest : (t u : Tally) (c m n : ℕ) → u ≡ tallyOn t (replicate c Apart) → c + m ≤ n → tallySum t + 2 * n < 4294967296 → tallySum u + 2 * m < 4294967296
+pub sum-with-rest : (t u : Tally) (c m n : ℕ) → u ≡ tallyOn t (replicate c Apart) → c + m ≤ n → tallySum t + 2 * n < 4294967296
+    → tallySum u + 2 * m < 4294967296
 sum-with-rest t u c m n h l s = omega (arith, ap tallySum h, sum-bound t (replicate c Apart), length-replicate c Apart)
 
 module _ (write : Bool) (ps : List Pair) (t u : Tally) (m : ℕ) (h : u ≡ tallyOn t (replicate m Apart)) (points : List Float) (marks : List ℕ) where
   pub room-at : RoomIf write ps (t .kept) points marks → RoomIf write ps (u .kept) points marks
   room-at r = rw (same-place t u m h) r
 
-  pub written-at : (points' : List Float) (marks' : List ℕ) → WrittenIf write ps (u .kept) points marks points' marks' → WrittenIf write ps (t .kept) points marks points' marks'
+  pub written-at : (points' : List Float) (marks' : List ℕ) → WrittenIf write ps (u .kept) points marks points' marks'
+      → WrittenIf write ps (t .kept) points marks points' marks'
   written-at points' marks' w = rw (same-place t u m h) at w
 
 -- ---- a row
@@ -140,7 +144,8 @@ module _ (a : Leg) (v : List Float) (n : ℕ) where
   unfolding foundPairs
   found-few flagged m h = omega (arith, length-map (take (m - 0) flagged) pairAt, length-take-le (m - 0) flagged (omega arith))
 
-  module _ (whole : length v ≡ 3 * n) (planes : List Float) (w from to : ℕ) (short : to ≤ n) (kept : PlanesOf v n to planes w) (flags : List ℕ) (told : FlagsOf a planes w from to flags) where
+  module _ (whole : length v ≡ 3 * n) (planes : List Float) (w from to : ℕ) (short : to ≤ n) (kept : PlanesOf v n to planes w) (flags : List ℕ)
+      (told : FlagsOf a planes w from to flags) where
     record Row (c k : ℕ) : Type 0 where
       left : ℕ
       sum : length (flaggedFrom flags k c) + left ≡ c

@@ -30,12 +30,14 @@ module _ (v : List Float) (closed : Bool) (l : ℕ) (accepted : storedCheck v �
   unfolding selfPairs
   self-visits = ap pairsWithin all-legs
 
-pub two-visits : (a : List Float) (a-closed : Bool) (la : ℕ) (b : List Float) (b-closed : Bool) (lb : ℕ) → storedCheck a ≡ 0 → la ≡ legCount (length a / 3) a-closed
+pub two-visits : (a : List Float) (a-closed : Bool) (la : ℕ) (b : List Float) (b-closed : Bool) (lb : ℕ) → storedCheck a ≡ 0 → la
+    ≡ legCount (length a / 3) a-closed
     → storedCheck b ≡ 0 → lb ≡ legCount (length b / 3) b-closed → pairsBetween (legsFrom a 0 la) (legsFrom b 0 lb) ≡ visited a a-closed b b-closed
 unfolding visited
 two-visits a a-closed la b b-closed lb oka ca okb cb = ap₂ pairsBetween (all-legs a a-closed la oka ca) (all-legs b b-closed lb okb cb)
 
-pub kept-two : (a : List Float) (a-closed : Bool) (la : ℕ) (b : List Float) (b-closed : Bool) (lb : ℕ) → storedCheck a ≡ 0 → la ≡ legCount (length a / 3) a-closed
+pub kept-two : (a : List Float) (a-closed : Bool) (la : ℕ) (b : List Float) (b-closed : Bool) (lb : ℕ) → storedCheck a ≡ 0 → la
+    ≡ legCount (length a / 3) a-closed
     → storedCheck b ≡ 0 → lb ≡ legCount (length b / 3) b-closed → length (keptMarks (visited a a-closed b b-closed)) ≤ la * lb
 kept-two a a-closed la b b-closed lb oka ca okb cb = rw (← two-visits a a-closed la b b-closed lb oka ca okb cb) (kept-between a b la lb)
 
@@ -80,7 +82,8 @@ six-in-range p q hp hq =
 leg-accepted : (l : Leg) → legCheck l ≡ 0 → storedCheck (legFloats l) ≡ 0
 unfolding legFloats legCheck storedCheck listCheck
 leg-accepted l h =
-    let e = six-in-range (l .from) (l .to) (first-passes (pointCheck (l .from)) (pointCheck (l .to)) h) (second-passes (pointCheck (l .from)) (pointCheck (l .to)) h) in
+    let e = six-in-range (l .from) (l .to) (first-passes (pointCheck (l .from)) (pointCheck (l .to)) h)
+    (second-passes (pointCheck (l .from)) (pointCheck (l .to)) h) in
     rw e
 
 leg-visits : (l : Leg) (v : List Float) (closed : Bool) → visited (legFloats l) false v closed ≡ legPairs l v closed

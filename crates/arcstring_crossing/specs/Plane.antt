@@ -1,4 +1,5 @@
--- What the pair test takes of a leg, worked out once, and that it is all of the leg that the test needs: for the contracts of inner functions. Definitions only.
+-- What the pair test takes of a leg, worked out once, and that it is all of the leg that the test needs: for the contracts of inner functions. Definitions
+-- only.
 use mathlib.Core.Path.{_≡_}
 use mathlib.Core.Bool.{Bool, not, _&&_}
 use mathlib.Core.List.{List, [], _∷_, _++_}

@@ -13,7 +13,19 @@ use Rattle.arcstring_crossing.specs.declared.crossing.Pair.{Pair}
 use Rattle.arcstring_crossing.specs.declared.listing.Counts.{Counts}
 use Rattle.arcstring_crossing.specs.declared.tally.Tally.{Tally}
 use Rattle.arcstring_crossing.specs.Crossing.{Leg, leg, pairOf}
-use Rattle.arcstring_crossing.specs.Listing.{legs, pairsBetween, pairsWithin, total, oneClean, oneEnd, oneGrazing, oneApart, keptMarks, markPoint, markByte}
+use Rattle.arcstring_crossing.specs.Listing.{
+  legs,
+  pairsBetween,
+  pairsWithin,
+  total,
+  oneClean,
+  oneEnd,
+  oneGrazing,
+  oneApart,
+  keptMarks,
+  markPoint,
+  markByte,
+}
 
 abbrev pub noTally : Tally
 noTally = record { clean = 0; end = 0; grazing = 0; apart = 0; kept = 0 }

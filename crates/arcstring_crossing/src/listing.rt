@@ -13,7 +13,9 @@ ghost use Rattle.arcstring.specs.Check.{checkNumber, storedCheck, roomCheck};
 ghost use Rattle.arcstring.specs.Build.{normalizedAll};
 ghost use Rattle.arcstring.specs.Point.{decidedAnswer};
 ghost use Rattle.arcstring_crossing.specs.Crossing.{leg, legOf, legCheck};
-ghost use Rattle.arcstring_crossing.specs.Listing.{keptMarks, markPoint, markByte, listingOf, inRoom, visited, legPairs, selfPairs, counted, legCrossings, selfCrossings, crossesSelf, sameSide, countedAnswer, listedAnswer, listedResult, listedFloats, listedBytes};
+ghost use Rattle.arcstring_crossing.specs.Listing.{keptMarks, markPoint, markByte, listingOf, inRoom, visited, legPairs, selfPairs, counted};
+ghost use Rattle.arcstring_crossing.specs.Listing.{legCrossings, selfCrossings, crossesSelf, sameSide, countedAnswer, listedAnswer, listedResult};
+ghost use Rattle.arcstring_crossing.specs.Listing.{listedFloats, listedBytes};
 ghost use Rattle.arcstring_crossing.specs.Listing as Listing;
 ghost use Rattle.arcstring_crossing.specs.Tally.{noTally, tallyOn, legFloats};
 use crate::crossing;
@@ -76,8 +78,10 @@ fn visit_two(
     requires { ⌜ 3 * length (keptMarks (visited (now a) «a_closed» (now b) «b_closed»)) ≤ length (now points) ⌝ }
     requires { ⌜ length (keptMarks (visited (now a) «a_closed» (now b) «b_closed»)) ≤ length (now marks) ⌝ }
     ensures { λ r. ⌜ r ≡ tallyOn noTally (visited (now (a .entry)) «a_closed» (now (b .entry)) «b_closed») ⌝ }
-    ensures { λ _. ⌜ now (points .exit) ≡ splice (now (points .entry)) 0 (flat (map markPoint (keptMarks (visited (now (a .entry)) «a_closed» (now (b .entry)) «b_closed»)))) ⌝ }
-    ensures { λ _. ⌜ now (marks .exit) ≡ splice (now (marks .entry)) 0 (map markByte (keptMarks (visited (now (a .entry)) «a_closed» (now (b .entry)) «b_closed»))) ⌝ }
+    ensures { λ _. ⌜ now (points .exit) ≡ splice (now (points .entry)) 0 (flat (map markPoint
+        (keptMarks (visited (now (a .entry)) «a_closed» (now (b .entry)) «b_closed»)))) ⌝ }
+    ensures { λ _. ⌜ now (marks .exit) ≡ splice (now (marks .entry)) 0 (map markByte
+        (keptMarks (visited (now (a .entry)) «a_closed» (now (b .entry)) «b_closed»))) ⌝ }
 {
     let na = a.len() / 3;
     let nb = b.len() / 3;
@@ -99,8 +103,10 @@ fn write_two(
     requires { ⌜ (storedCheck (now a) ≡ 0) × (storedCheck (now b) ≡ 0) × (kept ≡ length (keptMarks (visited (now a) «a_closed» (now b) «b_closed»))) ⌝ }
     requires { ⌜ 3 * length (keptMarks (visited (now a) «a_closed» (now b) «b_closed»)) ≤ length (now points) ⌝ }
     requires { ⌜ length (keptMarks (visited (now a) «a_closed» (now b) «b_closed»)) ≤ length (now marks) ⌝ }
-    ensures { λ _. ⌜ now (points .exit) ≡ splice (now (points .entry)) 0 (flat (map markPoint (keptMarks (visited (now (a .entry)) «a_closed» (now (b .entry)) «b_closed»)))) ⌝ }
-    ensures { λ _. ⌜ now (marks .exit) ≡ splice (now (marks .entry)) 0 (map markByte (keptMarks (visited (now (a .entry)) «a_closed» (now (b .entry)) «b_closed»))) ⌝ }
+    ensures { λ _. ⌜ now (points .exit) ≡ splice (now (points .entry)) 0 (flat (map markPoint
+        (keptMarks (visited (now (a .entry)) «a_closed» (now (b .entry)) «b_closed»)))) ⌝ }
+    ensures { λ _. ⌜ now (marks .exit) ≡ splice (now (marks .entry)) 0 (map markByte
+        (keptMarks (visited (now (a .entry)) «a_closed» (now (b .entry)) «b_closed»))) ⌝ }
 {
     if kept == 0 {
         return;
@@ -118,7 +124,8 @@ fn holds_all(
     marks: usize,
 ) -> bool
     requires { ⌜ (storedCheck (now a) ≡ 0) × (storedCheck (now b) ≡ 0) ⌝ }
-    ensures { λ r. ⌜ (r ≡ true → (3 * length (keptMarks (visited (now (a .entry)) «a_closed» (now (b .entry)) «b_closed»)) ≤ points) × (length (keptMarks (visited (now (a .entry)) «a_closed» (now (b .entry)) «b_closed»)) ≤ marks)) ⌝ }
+    ensures { λ r. ⌜ (r ≡ true → (3 * length (keptMarks (visited (now (a .entry)) «a_closed» (now (b .entry)) «b_closed»)) ≤ points)
+        × (length (keptMarks (visited (now (a .entry)) «a_closed» (now (b .entry)) «b_closed»)) ≤ marks)) ⌝ }
 {
     let pairs = tally::leg_count(a.len() / 3, a_closed) * tally::leg_count(b.len() / 3, b_closed);
     if 3 * pairs <= points {
@@ -163,9 +170,12 @@ fn list_two(
     marks: &mut [u8],
 ) -> Listed
     requires { ⌜ (storedCheck (now a) ≡ 0) × (storedCheck (now b) ≡ 0) ⌝ }
-    ensures { λ r. ⌜ listedAnswer r ≡ listedResult (inRoom (listingOf (visited (now (a .entry)) «a_closed» (now (b .entry)) «b_closed»)) (length (now (points .entry))) (length (now (marks .entry)))) ⌝ }
-    ensures { λ _. ⌜ now (points .exit) ≡ leaves (listedFloats (inRoom (listingOf (visited (now (a .entry)) «a_closed» (now (b .entry)) «b_closed»)) (length (now (points .entry))) (length (now (marks .entry))))) (now (points .entry)) ⌝ }
-    ensures { λ _. ⌜ now (marks .exit) ≡ leaves (listedBytes (inRoom (listingOf (visited (now (a .entry)) «a_closed» (now (b .entry)) «b_closed»)) (length (now (points .entry))) (length (now (marks .entry))))) (now (marks .entry)) ⌝ }
+    ensures { λ r. ⌜ listedAnswer r ≡ listedResult (inRoom (listingOf (visited (now (a .entry)) «a_closed» (now (b .entry)) «b_closed»))
+        (length (now (points .entry))) (length (now (marks .entry)))) ⌝ }
+    ensures { λ _. ⌜ now (points .exit) ≡ leaves (listedFloats (inRoom (listingOf (visited (now (a .entry)) «a_closed» (now (b .entry)) «b_closed»))
+        (length (now (points .entry))) (length (now (marks .entry))))) (now (points .entry)) ⌝ }
+    ensures { λ _. ⌜ now (marks .exit) ≡ leaves (listedBytes (inRoom (listingOf (visited (now (a .entry)) «a_closed» (now (b .entry)) «b_closed»))
+        (length (now (points .entry))) (length (now (marks .entry))))) (now (marks .entry)) ⌝ }
 {
     if holds_all(a, a_closed, b, b_closed, points.len(), marks.len()) {
         let t = visit_two(a, a_closed, b, b_closed, points, marks);
@@ -279,9 +289,11 @@ fn tally_self(v: &[f64], closed: bool) -> Tally
 // An accepted string's pairs with itself, counted, and what they keep written and then normalised in place.
 fn visit_self(v: &[f64], points: &mut [f64], marks: &mut [u8]) -> Tally
     requires { ⌜ storedCheck (now v) ≡ 0 ⌝ }
-    requires { ⌜ (3 * length (keptMarks (selfPairs (now v) false)) ≤ length (now points)) × (length (keptMarks (selfPairs (now v) false)) ≤ length (now marks)) ⌝ }
+    requires { ⌜ (3 * length (keptMarks (selfPairs (now v) false)) ≤ length (now points))
+        × (length (keptMarks (selfPairs (now v) false)) ≤ length (now marks)) ⌝ }
     ensures { λ r. ⌜ r ≡ tallyOn noTally (selfPairs (now (v .entry)) false) ⌝ }
-    ensures { λ _. ⌜ now (points .exit) ≡ splice (now (points .entry)) 0 (flat (normalizedAll (map markPoint (keptMarks (selfPairs (now (v .entry)) false))))) ⌝ }
+    ensures { λ _. ⌜ now (points .exit) ≡ splice (now (points .entry)) 0 (flat (normalizedAll
+        (map markPoint (keptMarks (selfPairs (now (v .entry)) false))))) ⌝ }
     ensures { λ _. ⌜ now (marks .exit) ≡ splice (now (marks .entry)) 0 (map markByte (keptMarks (selfPairs (now (v .entry)) false))) ⌝ }
 {
     let n = v.len() / 3;
@@ -294,7 +306,8 @@ fn visit_self(v: &[f64], points: &mut [f64], marks: &mut [u8]) -> Tally
 fn write_self(v: &[f64], kept: usize, points: &mut [f64], marks: &mut [u8])
     requires { ⌜ (storedCheck (now v) ≡ 0) × (kept ≡ length (keptMarks (selfPairs (now v) false))) ⌝ }
     requires { ⌜ (3 * kept ≤ length (now points)) × (kept ≤ length (now marks)) ⌝ }
-    ensures { λ _. ⌜ now (points .exit) ≡ splice (now (points .entry)) 0 (flat (normalizedAll (map markPoint (keptMarks (selfPairs (now (v .entry)) false))))) ⌝ }
+    ensures { λ _. ⌜ now (points .exit) ≡ splice (now (points .entry)) 0 (flat (normalizedAll
+        (map markPoint (keptMarks (selfPairs (now (v .entry)) false))))) ⌝ }
     ensures { λ _. ⌜ now (marks .exit) ≡ splice (now (marks .entry)) 0 (map markByte (keptMarks (selfPairs (now (v .entry)) false))) ⌝ }
 {
     if kept == 0 {
@@ -307,7 +320,8 @@ fn write_self(v: &[f64], kept: usize, points: &mut [f64], marks: &mut [u8])
 // itself.
 fn holds_self(v: &[f64], points: usize, marks: usize) -> bool
     requires { ⌜ storedCheck (now v) ≡ 0 ⌝ }
-    ensures { λ r. ⌜ (r ≡ true → (3 * length (keptMarks (selfPairs (now (v .entry)) false)) ≤ points) × (length (keptMarks (selfPairs (now (v .entry)) false)) ≤ marks)) ⌝ }
+    ensures { λ r. ⌜ (r ≡ true → (3 * length (keptMarks (selfPairs (now (v .entry)) false)) ≤ points)
+        × (length (keptMarks (selfPairs (now (v .entry)) false)) ≤ marks)) ⌝ }
 {
     let n = v.len() / 3;
     if n < 4 {

@@ -138,7 +138,8 @@ fn next_place(n: usize, flag: usize) -> usize
 // and counted only if its flag is set, so that there is no branch to go the wrong way.
 pub(crate) fn gather(flags: &[usize], from: usize, to: usize, flagged: &mut [usize]) -> usize
     requires { ⌜ (to ≤ length (now flags)) × (to ≤ length (now flagged)) × (to ≤ 1024) ⌝ }
-    ensures { λ r. ⌜ (r ≤ to - from) × (r ≤ length (now (flagged .exit))) × (take r (now (flagged .exit)) ≡ flaggedFrom (now (flags .entry)) from (to - from)) ⌝ }
+    ensures { λ r. ⌜ (r ≤ to - from) × (r ≤ length (now (flagged .exit))) × (take r (now (flagged .exit))
+        ≡ flaggedFrom (now (flags .entry)) from (to - from)) ⌝ }
     ensures { λ r. ⌜ ((j : ℕ) → j < r → getD (now (flagged .exit)) j 0 < to) ⌝ }
 {
     let mut n = 0;

@@ -28,11 +28,13 @@ fn walk_found(
     marks: &mut [u8],
     start: Tally,
 ) -> Tally
-    requires { ⌜ (length (now v) ≡ 3 * n) × (l ≤ n) × (n ≤ 1024) × (tallySum start + 2 * m < 4294967296) × (arc ≡ planeOf (planeLeg arc)) × PlanesOf (now v) n l (now planes) width ⌝ }
+    requires { ⌜ (length (now v) ≡ 3 * n) × (l ≤ n) × (n ≤ 1024) × (tallySum start + 2 * m < 4294967296) × (arc ≡ planeOf (planeLeg arc))
+        × PlanesOf (now v) n l (now planes) width ⌝ }
     requires { ⌜ (m ≤ length (now flagged)) × ((j : ℕ) → j < m → getD (now flagged) j 0 < l) ⌝ }
     requires { ⌜ RoomIf write (foundPairs (planeLeg arc) (now v) n (now flagged) 0 m) (start .kept) (now points) (now marks) ⌝ }
     ensures { λ r. ⌜ r ≡ tallyOn start (foundPairs (planeLeg arc) (now (v .entry)) n (now (flagged .entry)) 0 m) ⌝ }
-    ensures { λ _. ⌜ WrittenIf write (foundPairs (planeLeg arc) (now (v .entry)) n (now (flagged .entry)) 0 m) (start .kept) (now (points .entry)) (now (marks .entry)) (now (points .exit)) (now (marks .exit)) ⌝ }
+    ensures { λ _. ⌜ WrittenIf write (foundPairs (planeLeg arc) (now (v .entry)) n (now (flagged .entry)) 0 m) (start .kept)
+        (now (points .entry)) (now (marks .entry)) (now (points .exit)) (now (marks .exit)) ⌝ }
 {
     let mut t = start;
     let mut j = 0;
@@ -62,11 +64,13 @@ fn walk_row(
     marks: &mut [u8],
     start: Tally,
 ) -> Tally
-    requires { ⌜ (length (now v) ≡ 3 * n) × (to ≤ n) × (n ≤ 1024) × (tallySum start + 2 * n < 4294967296) × (arc ≡ planeOf (planeLeg arc)) × PlanesOf (now v) n to (now planes) width ⌝ }
+    requires { ⌜ (length (now v) ≡ 3 * n) × (to ≤ n) × (n ≤ 1024) × (tallySum start + 2 * n < 4294967296) × (arc ≡ planeOf (planeLeg arc))
+        × PlanesOf (now v) n to (now planes) width ⌝ }
     requires { ⌜ (to ≤ length (now flags)) × (to ≤ length (now flagged)) ⌝ }
     requires { ⌜ RoomIf write (rowPairs (planeLeg arc) (now v) from to) (start .kept) (now points) (now marks) ⌝ }
     ensures { λ r. ⌜ r ≡ tallyOn start (rowPairs (planeLeg arc) (now (v .entry)) from to) ⌝ }
-    ensures { λ _. ⌜ WrittenIf write (rowPairs (planeLeg arc) (now (v .entry)) from to) (start .kept) (now (points .entry)) (now (marks .entry)) (now (points .exit)) (now (marks .exit)) ⌝ }
+    ensures { λ _. ⌜ WrittenIf write (rowPairs (planeLeg arc) (now (v .entry)) from to) (start .kept)
+        (now (points .entry)) (now (marks .entry)) (now (points .exit)) (now (marks .exit)) ⌝ }
 {
     let found = planes::flag_row(arc, planes, width, from, to, flags);
     if found == 0 {
@@ -117,11 +121,13 @@ fn walk(
     marks: &mut [u8],
 ) -> Tally
     requires { ⌜ (length (now a) ≡ 3 * na) × (la ≤ na) × (na ≤ 1024) ⌝ }
-    requires { ⌜ (length (now b) ≡ 3 * nb) × (lb ≤ nb) × (nb ≤ 1024) × PlanesOf (now b) nb lb (now planes) width × (lb ≤ length (now flags)) × (lb ≤ length (now flagged)) ⌝ }
+    requires { ⌜ (length (now b) ≡ 3 * nb) × (lb ≤ nb) × (nb ≤ 1024) × PlanesOf (now b) nb lb (now planes) width × (lb ≤ length (now flags))
+        × (lb ≤ length (now flagged)) ⌝ }
     requires { ⌜ (within ≡ true → (now a ≡ now b) × (la ≡ lb)) ⌝ }
     requires { ⌜ RoomIf write (visitsFrom within (now a) 0 la (now b) lb) 0 (now points) (now marks) ⌝ }
     ensures { λ r. ⌜ r ≡ tallyOn noTally (visitsFrom within (now (a .entry)) 0 la (now (b .entry)) lb) ⌝ }
-    ensures { λ _. ⌜ WrittenIf write (visitsFrom within (now (a .entry)) 0 la (now (b .entry)) lb) 0 (now (points .entry)) (now (marks .entry)) (now (points .exit)) (now (marks .exit)) ⌝ }
+    ensures { λ _. ⌜ WrittenIf write (visitsFrom within (now (a .entry)) 0 la (now (b .entry)) lb) 0
+        (now (points .entry)) (now (marks .entry)) (now (points .exit)) (now (marks .exit)) ⌝ }
 {
     let mut t = tally::none();
     let mut i = 0;
@@ -166,7 +172,8 @@ fn visit_short(
     requires { ⌜ (within ≡ true → (now a ≡ now b) × (la ≡ lb)) ⌝ }
     requires { ⌜ RoomIf write (visitsFrom within (now a) 0 la (now b) lb) 0 (now points) (now marks) ⌝ }
     ensures { λ r. ⌜ r ≡ tallyOn noTally (visitsFrom within (now (a .entry)) 0 la (now (b .entry)) lb) ⌝ }
-    ensures { λ _. ⌜ WrittenIf write (visitsFrom within (now (a .entry)) 0 la (now (b .entry)) lb) 0 (now (points .entry)) (now (marks .entry)) (now (points .exit)) (now (marks .exit)) ⌝ }
+    ensures { λ _. ⌜ WrittenIf write (visitsFrom within (now (a .entry)) 0 la (now (b .entry)) lb) 0
+        (now (points .entry)) (now (marks .entry)) (now (points .exit)) (now (marks .exit)) ⌝ }
 {
     let mut planes = [0.0; 576];
     let mut flags = [0usize; 64];
@@ -208,7 +215,8 @@ fn visit_long(
     requires { ⌜ (within ≡ true → (now a ≡ now b) × (la ≡ lb)) ⌝ }
     requires { ⌜ RoomIf write (visitsFrom within (now a) 0 la (now b) lb) 0 (now points) (now marks) ⌝ }
     ensures { λ r. ⌜ r ≡ tallyOn noTally (visitsFrom within (now (a .entry)) 0 la (now (b .entry)) lb) ⌝ }
-    ensures { λ _. ⌜ WrittenIf write (visitsFrom within (now (a .entry)) 0 la (now (b .entry)) lb) 0 (now (points .entry)) (now (marks .entry)) (now (points .exit)) (now (marks .exit)) ⌝ }
+    ensures { λ _. ⌜ WrittenIf write (visitsFrom within (now (a .entry)) 0 la (now (b .entry)) lb) 0
+        (now (points .entry)) (now (marks .entry)) (now (points .exit)) (now (marks .exit)) ⌝ }
 {
     let mut planes = [0.0; 9216];
     let mut flags = [0usize; 1024];
@@ -252,7 +260,8 @@ pub(crate) fn visit(
     requires { ⌜ (within ≡ true → (now a ≡ now b) × (la ≡ lb)) ⌝ }
     requires { ⌜ RoomIf write (visitsFrom within (now a) 0 la (now b) lb) 0 (now points) (now marks) ⌝ }
     ensures { λ r. ⌜ r ≡ tallyOn noTally (visitsFrom within (now (a .entry)) 0 la (now (b .entry)) lb) ⌝ }
-    ensures { λ _. ⌜ WrittenIf write (visitsFrom within (now (a .entry)) 0 la (now (b .entry)) lb) 0 (now (points .entry)) (now (marks .entry)) (now (points .exit)) (now (marks .exit)) ⌝ }
+    ensures { λ _. ⌜ WrittenIf write (visitsFrom within (now (a .entry)) 0 la (now (b .entry)) lb) 0
+        (now (points .entry)) (now (marks .entry)) (now (points .exit)) (now (marks .exit)) ⌝ }
 {
     if lb <= 64 {
         return visit_short(a, na, la, b, nb, lb, within, write, points, marks);

@@ -30,11 +30,13 @@ end-or-clean-requires c κs = search needs
 returns-2 : tie.Need-returns-2
 returns-2 c = let d = c .before .before in
     let e = d .before .before .before in
-    signs-class _ _ _ _ _ _ _ _ (sym (e .before .some-grazing .ensures) ∙ e .if1 .left) (d .before .before .all-above .ensures) (d .before .all-below .ensures) (d .if2 .taken) (c .before .turned .ensures) (c .end-or-clean .ensures)
+    signs-class _ _ _ _ _ _ _ _ (sym (e .before .some-grazing .ensures) ∙ e .if1 .left) (d .before .before .all-above .ensures)
+    (d .before .all-below .ensures) (d .if2 .taken) (c .before .turned .ensures) (c .end-or-clean .ensures)
 
 returns-3 : tie.Need-returns-3
 returns-3 c = let e = c .before .before .before in
-    no-signs-class _ _ _ _ _ _ (sym (e .before .some-grazing .ensures) ∙ e .if1 .left) (c .before .before .all-above .ensures) (c .before .all-below .ensures) (c .if2 .left)
+    no-signs-class _ _ _ _ _ _ (sym (e .before .some-grazing .ensures) ∙ e .if1 .left) (c .before .before .all-above .ensures) (c .before .all-below .ensures)
+    (c .if2 .left)
 
 pub class-at-spec : {M : Type 1} → statement M
 class-at-spec =

@@ -1,5 +1,4 @@
 -- The greater of two floats. Assumes nothing.
-use borrow.Author.Needs.{needs}
 use Rattle.arcstring_crossing.proofs.crossing.greater.Statement.{statement}
 use Rattle.arcstring_crossing.proofs.crossing.greater.Tie as tie
 

@@ -18,7 +18,8 @@ class-at-requires c κs = search needs
 returns : tie.Need-returns
 unfolding planeSides
 returns c = let s = c .before .before .before in
-    c .class-at .ensures ∙ planes-class (s .args .a) (s .args .b) _ _ (s .pre .0) (s .pre .1) (c .before .before .xyz-cross .ensures) (c .before .side-values .ensures)
+    c .class-at .ensures ∙ planes-class (s .args .a) (s .args .b) _ _ (s .pre .0) (s .pre .1) (c .before .before .xyz-cross .ensures)
+    (c .before .side-values .ensures)
 
 pub planes-pair-spec : {M : Type 1} → statement M
 planes-pair-spec =

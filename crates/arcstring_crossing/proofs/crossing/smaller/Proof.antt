@@ -1,5 +1,4 @@
 -- The smaller of two floats. Assumes nothing.
-use borrow.Author.Needs.{needs}
 use Rattle.arcstring_crossing.proofs.crossing.smaller.Statement.{statement}
 use Rattle.arcstring_crossing.proofs.crossing.smaller.Tie as tie
 

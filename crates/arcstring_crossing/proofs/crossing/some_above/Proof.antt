@@ -31,7 +31,8 @@ returns : tie.Need-returns
 unfolding isAbove ofBits
 returns c =
     let s = c .before .before .before in
-    picked-is-one isAbove (λ (x y : Float). lt y x) (s .args .t1) (s .good .0 .1 .0 .1) (c .before .before .greater .ensures) (c .before .greater2 .ensures) (c .greater3 .ensures)
+    picked-is-one isAbove (λ (x y : Float). lt y x) (s .args .t1) (s .good .0 .1 .0 .1) (c .before .before .greater .ensures) (c .before .greater2 .ensures)
+    (c .greater3 .ensures)
 
 pub some-above-spec : {M : Type 1} → statement M
 some-above-spec =

@@ -14,7 +14,8 @@ signed-requires-3 : tie.Need-signed-requires-3
 signed-requires-3 c κs = search needs
 
 returns : tie.Need-returns
-returns c = turned-point (c .before .before .before .args .keep) (c .before .before .before .args .t) _ _ _ (c .before .before .signed .ensures) (c .before .signed2 .ensures) (c .signed3 .ensures)
+returns c = turned-point (c .before .before .before .args .keep) (c .before .before .before .args .t) _ _ _ (c .before .before .signed .ensures)
+    (c .before .signed2 .ensures) (c .signed3 .ensures)
 
 pub turned-spec : {M : Type 1} → statement M
 turned-spec = tie.close (tie.spec signed-requires signed-requires-2 signed-requires-3 returns)

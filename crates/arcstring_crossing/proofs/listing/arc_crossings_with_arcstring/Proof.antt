@@ -15,11 +15,14 @@ use Rattle.arcstring_crossing.proofs.listing.arc_crossings_with_arcstri
 use Rattle.arcstring_crossing.proofs.listing.arc_crossings_with_arcstring.Tie as tie
 
 -- the two checks
-number : (c : tie.After-first-of) → checkNumber (c .first-of .result) ≡ firstOf (legCheck (legOf (c .before .before .before .before .before .before .args .arc))) (storedCheck (c .before .before .before .before .before .before .args .v .now))
+number : (c : tie.After-first-of) → checkNumber (c .first-of .result)
+    ≡ firstOf (legCheck (legOf (c .before .before .before .before .before .before .args .arc)))
+    (storedCheck (c .before .before .before .before .before .before .args .v .now))
 number c = c .first-of .ensures ∙ both-numbers (c .before .before .check-leg .ensures) (c .before .check-stored .ensures)
 
 -- both accept, so what follows is the answer
-accepted : (c : tie.After-enum-told) → (legCheck (legOf (c .before .before .before .before .before .before .before .before .args .arc)) ≡ 0) × (storedCheck (c .before .before .before .before .before .before .before .before .args .v .now) ≡ 0)
+accepted : (c : tie.After-enum-told) → (legCheck (legOf (c .before .before .before .before .before .before .before .before .args .arc)) ≡ 0)
+    × (storedCheck (c .before .before .before .before .before .before .before .before .args .v .now) ≡ 0)
 accepted c = both-accepted _ (legCheck _) (storedCheck _) (c .enum-told .given .1) (number (c .before .before))
 
 check-leg-requires : tie.Need-check-leg-requires
@@ -59,9 +62,14 @@ same-length-2 c = search needs
 
 returns-2 : tie.Need-returns-2
 unfolding legCrossings
-returns-2 c = let s = c .before .before .before .before .before .before .before .before .before .before .before .before .before .before .before .before .before in
-    let same = ap (λ (ps : List Pair). inRoom (listingOf ps) (length (s .args .points .now)) (length (s .args .marks .now))) (visits-as _ _ (c .before .before .before .before .before .before .before .before .leg-string .ensures) (s .args .v .now) (s .args .closed)) in
-    leaves-as _ _ _ _ _ _ _ (same ∙ answer-accepted-first _ (legCheck _) (storedCheck _) _ (c .before .before .before .before .before .before .before .before .before .enum-told .given .1) (number (c .before .before .before .before .before .before .before .before .before .before .before))) (c .before .before .before .before .list-two .ensures)
+returns-2 c = let s = c .before .before .before .before .before .before .before .before .before .before .before .before .before .before .before .before
+    .before in
+    let same = ap (λ (ps : List Pair). inRoom (listingOf ps) (length (s .args .points .now)) (length (s .args .marks .now)))
+    (visits-as _ _ (c .before .before .before .before .before .before .before .before .leg-string .ensures) (s .args .v .now) (s .args .closed)) in
+    leaves-as _ _ _ _ _ _ _ (same ∙ answer-accepted-first _ (legCheck _) (storedCheck _) _
+    (c .before .before .before .before .before .before .before .before .before .enum-told .given .1)
+    (number (c .before .before .before .before .before .before .before .before .before .before .before)))
+    (c .before .before .before .before .list-two .ensures)
 
 pub arc-crossings-with-arcstring-spec : {M : Type 1} → statement M
 arc-crossings-with-arcstring-spec =

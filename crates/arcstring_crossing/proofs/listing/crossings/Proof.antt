@@ -10,7 +10,9 @@ use Rattle.arcstring_crossing.proofs.listing.crossings.Statement.{state
 use Rattle.arcstring_crossing.proofs.listing.crossings.Tie as tie
 
 -- the two checks
-number : (c : tie.After-first-of) → checkNumber (c .first-of .result) ≡ firstOf (storedCheck (c .before .before .before .before .before .before .before .args .a .now)) (storedCheck (c .before .before .before .before .before .before .before .args .b .now))
+number : (c : tie.After-first-of) → checkNumber (c .first-of .result)
+    ≡ firstOf (storedCheck (c .before .before .before .before .before .before .before .args .a .now))
+    (storedCheck (c .before .before .before .before .before .before .before .args .b .now))
 number c = c .first-of .ensures ∙ both-numbers (c .before .before .check-stored .ensures) (c .before .check-stored2 .ensures)
 
 check-stored-requires : tie.Need-check-stored-requires
@@ -27,7 +29,8 @@ enum-known-checked c = search needs
 
 returns : tie.Need-returns
 unfolding crossings
-returns c = refused-leaves _ _ _ _ (answer-refused-first _ _ (storedCheck _) (storedCheck _) _ (c .before .checked .given .1) (number (c .before .before .before)))
+returns c = refused-leaves _ _ _ _ (answer-refused-first _ _ (storedCheck _) (storedCheck _) _ (c .before .checked .given .1)
+    (number (c .before .before .before)))
 
 enum-told : tie.Need-enum-told
 enum-told c = search needs
@@ -43,7 +46,9 @@ same-length-2 c = search needs
 
 returns-2 : tie.Need-returns-2
 unfolding crossings
-returns-2 c = leaves-as _ _ _ _ _ _ _ (answer-accepted-first _ (storedCheck _) (storedCheck _) _ (c .before .before .before .before .before .before .before .enum-told .given .1) (number (c .before .before .before .before .before .before .before .before .before))) (c .before .before .before .before .list-two .ensures)
+returns-2 c = leaves-as _ _ _ _ _ _ _ (answer-accepted-first _ (storedCheck _) (storedCheck _) _
+    (c .before .before .before .before .before .before .before .enum-told .given .1)
+    (number (c .before .before .before .before .before .before .before .before .before))) (c .before .before .before .before .list-two .ensures)
 
 pub crossings-spec : {M : Type 1} → statement M
 crossings-spec =

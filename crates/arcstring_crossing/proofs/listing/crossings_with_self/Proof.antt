@@ -1,4 +1,5 @@
--- A refusal of the string, then for want of room, else the listing of its pairs with itself, its points normalised: by one walk where the buffers hold a point of every pair, else counted first. Assumes nothing.
+-- A refusal of the string, then for want of room, else the listing of its pairs with itself, its points normalised: by one walk where the buffers hold a
+-- point of every pair, else counted first. Assumes nothing.
 use mathlib.Core.Path.{_≡_, sym, ap, _∙_}
 use borrow.Author.Needs.{needs}
 use Rattle.arcstring.specs.Answer.{Answer, unlessRefused}
@@ -6,7 +7,16 @@ use Rattle.arcstring.specs.Splice.{splice}
 use Rattle.arcstring.specs.Check.{checkNumber, storedCheck}
 use Rattle.arcstring.proofs.Answers.{answer-refused, answer-accepted}
 use Rattle.arcstring_crossing.specs.Listing.{Listing, selfCrossings}
-use Rattle.arcstring_crossing.proofs.Listings.{refused-leaves, lists-normalized, fitting-leaves, normalized-points, normalized-bytes, no-room-leaves, listing-leaves, room-for-kept}
+use Rattle.arcstring_crossing.proofs.Listings.{
+  refused-leaves,
+  lists-normalized,
+  fitting-leaves,
+  normalized-points,
+  normalized-bytes,
+  no-room-leaves,
+  listing-leaves,
+  room-for-kept,
+}
 use Rattle.arcstring_crossing.proofs.Tallies.{tally-kept}
 use Rattle.arcstring_crossing.proofs.listing.crossings_with_self.Statement.{statement}
 use Rattle.arcstring_crossing.proofs.listing.crossings_with_self.Tie as tie
@@ -52,7 +62,8 @@ unfolding selfCrossings
 returns-2 c = let e = c .before .before .before .before .before in
     let t = e .before .before .before in
     let w = e .visit-self .ensures in
-    fitting-leaves _ _ (lists-normalized _) _ _ _ _ _ _ _ (w .0) (t .before .holds-self .ensures (t .if1 .taken)) (follows (t .before .before) _) (c .counts-of .ensures) (w .1 .0 ∙ ap (splice _ 0) (normalized-points _)) (w .1 .1 ∙ ap (splice _ 0) (normalized-bytes _))
+    fitting-leaves _ _ (lists-normalized _) _ _ _ _ _ _ _ (w .0) (t .before .holds-self .ensures (t .if1 .taken)) (follows (t .before .before) _)
+    (c .counts-of .ensures) (w .1 .0 ∙ ap (splice _ 0) (normalized-points _)) (w .1 .1 ∙ ap (splice _ 0) (normalized-bytes _))
 
 tally-self-requires : tie.Need-tally-self-requires
 tally-self-requires c κs = accepted (c .before .before)
@@ -66,7 +77,8 @@ enum-known-room c = search needs
 returns-3 : tie.Need-returns-3
 unfolding selfCrossings
 returns-3 c = let d = c .before .before .before in
-    no-room-leaves _ _ (lists-normalized _) _ (d .before .tally-self .ensures .0) _ _ _ (d .check-buffers .ensures) _ _ (follows (d .before .before .before .before) _) (c .before .room .given .1)
+    no-room-leaves _ _ (lists-normalized _) _ (d .before .tally-self .ensures .0) _ _ _ (d .check-buffers .ensures) _ _
+    (follows (d .before .before .before .before) _) (c .before .room .given .1)
 
 enum-told-2 : tie.Need-enum-told-2
 enum-told-2 c = search needs
@@ -74,8 +86,11 @@ enum-told-2 c = search needs
 write-self-requires : tie.Need-write-self-requires
 write-self-requires c κs = let d = c .before .before .before .before in
     let s = d .before .before .before .before .before .before .before .before .before .before in
-    let t = d .before .tally-self .ensures .0 in
-    ((accepted (d .before .before .before .before), tally-kept _ _ t), room-for-kept _ _ (lists-normalized _) _ t _ (s .args .points .now) (s .args .marks .now) (d .check-buffers .ensures) (c .before .before .enum-told2 .given .1))
+    let t = d .before .tally-self .ensures .0 in (
+      (accepted (d .before .before .before .before), tally-kept _ _ t),
+      room-for-kept _ _ (lists-normalized _) _ t _ (s .args .points .now)
+          (s .args .marks .now) (d .check-buffers .ensures) (c .before .before .enum-told2 .given .1),
+    )
 
 counts-of-requires-2 : tie.Need-counts-of-requires-2
 counts-of-requires-2 c κs = search needs
@@ -90,7 +105,9 @@ returns-4 : tie.Need-returns-4
 unfolding selfCrossings
 returns-4 c = let d = c .before .before .before .before .before .before .before .before .before .before in
     let w = c .before .before .before .before .before .write-self .ensures in
-    listing-leaves _ _ (lists-normalized _) _ (d .before .tally-self .ensures .0) _ _ _ (d .check-buffers .ensures) _ _ _ _ (follows (d .before .before .before .before) _) (c .before .before .before .before .before .before .before .before .enum-told2 .given .1) (c .counts-of2 .ensures) (w .0 ∙ ap (splice _ 0) (normalized-points _)) (w .1 ∙ ap (splice _ 0) (normalized-bytes _))
+    listing-leaves _ _ (lists-normalized _) _ (d .before .tally-self .ensures .0) _ _ _ (d .check-buffers .ensures) _ _ _ _
+    (follows (d .before .before .before .before) _) (c .before .before .before .before .before .before .before .before .enum-told2 .given .1)
+    (c .counts-of2 .ensures) (w .0 ∙ ap (splice _ 0) (normalized-points _)) (w .1 ∙ ap (splice _ 0) (normalized-bytes _))
 
 pub crossings-with-self-spec : {M : Type 1} → statement M
 crossings-with-self-spec =

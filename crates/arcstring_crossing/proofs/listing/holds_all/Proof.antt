@@ -14,10 +14,13 @@ use Rattle.arcstring_crossing.proofs.listing.holds_all.Tie as tie
 
 small : (c : tie.After-leg-count2) → (c .before .leg-count .result) * (c .leg-count2 .result) ≤ 1048576
 small c = let p = c .before .before .before .before .pre in
-    product-small _ _ (le-trans (c .before .leg-count .ensures .1) (stored-whole _ (p .0) .at-most)) (le-trans (c .leg-count2 .ensures .1) (stored-whole _ (p .1) .at-most))
+    product-small _ _ (le-trans (c .before .leg-count .ensures .1) (stored-whole _ (p .0) .at-most))
+    (le-trans (c .leg-count2 .ensures .1) (stored-whole _ (p .1) .at-most))
 
 -- all pairs keep at most one point each
-kept : (c : tie.After-leg-count2) → length (keptMarks (visited (c .before .before .before .before .args .a .now) (c .before .before .before .before .args .a-closed) (c .before .before .before .before .args .b .now) (c .before .before .before .before .args .b-closed))) ≤ (c .before .leg-count .result) * (c .leg-count2 .result)
+kept : (c : tie.After-leg-count2) → length (keptMarks (visited (c .before .before .before .before .args .a .now)
+    (c .before .before .before .before .args .a-closed) (c .before .before .before .before .args .b .now)
+    (c .before .before .before .before .args .b-closed))) ≤ (c .before .leg-count .result) * (c .leg-count2 .result)
 kept c = let p = c .before .before .before .before .pre in
     kept-two _ _ _ _ _ _ (p .0) (c .before .leg-count .ensures .0) (p .1) (c .leg-count2 .ensures .0)
 
@@ -34,7 +37,15 @@ mul-if1 : tie.Need-mul-if1
 mul-if1 c = omega (arith, small c)
 
 returns : tie.Need-returns
-returns c = λ e. (omega (arith, kept (c .before)), omega (arith, kept (c .before), leb-true ((c .before .before .leg-count .result) * (c .before .leg-count2 .result)) (c .before .before .before .before .before .args .marks) e))
+returns c = λ e. (
+  omega (arith, kept (c .before)),
+  omega (
+    arith,
+    kept (c .before),
+    leb-true
+        ((c .before .before .leg-count .result) * (c .before .leg-count2 .result)) (c .before .before .before .before .before .args .marks) e,
+  ),
+)
 
 returns-2 : tie.Need-returns-2
 returns-2 c = λ e. absurd (let z : _≡_ {A = ℕ} 0 1 = cc in omega arith)

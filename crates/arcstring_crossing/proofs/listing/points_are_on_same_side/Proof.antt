@@ -15,14 +15,20 @@ use Rattle.arcstring_crossing.proofs.listing.points_are_on_same_side.St
 use Rattle.arcstring_crossing.proofs.listing.points_are_on_same_side.Tie as tie
 
 -- the two checks
-number : (c : tie.After-first-of) → checkNumber (c .first-of .result) ≡ firstOf (legCheck (leg (c .before .before .before .before .args .point-a) (c .before .before .before .before .args .point-b))) (storedCheck (c .before .before .before .before .args .v .now))
+number : (c : tie.After-first-of) → checkNumber (c .first-of .result)
+    ≡ firstOf (legCheck (leg (c .before .before .before .before .args .point-a) (c .before .before .before .before .args .point-b)))
+    (storedCheck (c .before .before .before .before .args .v .now))
 number c = c .first-of .ensures ∙ both-numbers (c .before .before .check-leg .ensures) (c .before .check-stored .ensures)
 
 -- both accept, so what follows is the answer
-accepted : (c : tie.After-enum-told) → (legCheck (leg (c .before .before .before .before .before .before .args .point-a) (c .before .before .before .before .before .before .args .point-b)) ≡ 0) × (storedCheck (c .before .before .before .before .before .before .args .v .now) ≡ 0)
+accepted : (c : tie.After-enum-told) → (legCheck (leg (c .before .before .before .before .before .before .args .point-a)
+    (c .before .before .before .before .before .before .args .point-b)) ≡ 0)
+    × (storedCheck (c .before .before .before .before .before .before .args .v .now) ≡ 0)
 accepted c = both-accepted _ (legCheck _) (storedCheck _) (c .enum-told .given .1) (number (c .before .before))
 
-follows : (c : tie.After-enum-told) (x : Answer Bool) → x ≡ unlessRefused (legCheck (leg (c .before .before .before .before .before .before .args .point-a) (c .before .before .before .before .before .before .args .point-b))) (unlessRefused (storedCheck (c .before .before .before .before .before .before .args .v .now)) x)
+follows : (c : tie.After-enum-told) (x : Answer Bool) → x ≡ unlessRefused
+    (legCheck (leg (c .before .before .before .before .before .before .args .point-a) (c .before .before .before .before .before .before .args .point-b)))
+    (unlessRefused (storedCheck (c .before .before .before .before .before .before .args .v .now)) x)
 follows c x = answer-accepted-first _ (legCheck _) (storedCheck _) x (c .enum-told .given .1) (number (c .before .before))
 
 check-leg-requires : tie.Need-check-leg-requires

@@ -29,8 +29,19 @@ visit-requires : tie.Need-visit-requires
 unfolding visitsFrom
 visit-requires c κs = let s = c .before .before .before .before .before in
     let w = stored-whole _ (s .pre .0) in
-    let v = self-visits _ _ _ (s .pre .0) (open-count _ _ refl) in
-    ((w .triples, omega arith, w .at-most), ((w .triples, omega arith, w .at-most), (λ e. (refl, refl), record { fits = λ o. room-at-start _ (s .args .points .now) (s .args .marks .now) (room-of _ _ v (s .args .points .now) (s .args .marks .now) (s .pre .1)) })))
+    let v = self-visits _ _ _ (s .pre .0) (open-count _ _ refl) in (
+      (w .triples, omega arith, w .at-most),
+      (
+        (w .triples, omega arith, w .at-most),
+        (
+          λ e. (refl, refl),
+          record {
+            fits = λ o. room-at-start _ (s .args .points .now) (s .args .marks .now)
+                (room-of _ _ v (s .args .points .now) (s .args .marks .now) (s .pre .1));
+          },
+        ),
+      ),
+    )
 
 normalize-points-requires : tie.Need-normalize-points-requires
 normalize-points-requires c κs = let k = tally-kept _ _ (count (c .before .before .before .before .before)) in
@@ -46,8 +57,14 @@ returns : tie.Need-returns
 unfolding visitsFrom
 returns c = let e = c .before .before .before .before .before .before .before .before in
     let s = c .before .before .before .before .before .before .before .before .before .before .before .before .before .before in
-    let w = written-of _ _ (self-visits _ _ _ (s .pre .0) (open-count _ _ refl)) _ _ _ _ (e .visit .ensures .1 .on refl) in
-    (count e, (normalized-in-place (selfPairs (s .args .v .now) false) _ _ _ _ (tally-kept _ _ (count e)) (w .0) (c .before .before .normalize-points .ensures), w .1))
+    let w = written-of _ _ (self-visits _ _ _ (s .pre .0) (open-count _ _ refl)) _ _ _ _ (e .visit .ensures .1 .on refl) in (
+      count e,
+      (
+        normalized-in-place (selfPairs (s .args .v .now) false) _ _ _ _ (tally-kept _ _ (count e)) (w .0)
+            (c .before .before .normalize-points .ensures),
+        w .1,
+      ),
+    )
 
 pub visit-self-spec : {M : Type 1} → statement M
 visit-self-spec =

@@ -21,8 +21,19 @@ visit-requires c κs = let s = c .before .before .before .before .before .before
     let p = s .pre .0 in
     let u = stored-whole _ (p .0) in
     let w = stored-whole _ (p .1) in
-    let v = two-visits _ _ _ _ _ _ (p .0) (c .before .before .before .leg-count .ensures .0) (p .1) (c .before .before .leg-count2 .ensures .0) in
-    ((u .triples, c .before .before .before .leg-count .ensures .1, u .at-most), ((w .triples, c .before .before .leg-count2 .ensures .1, w .at-most), (not-within, record { fits = λ o. room-at-start _ (s .args .points .now) (s .args .marks .now) (room-of _ _ v (s .args .points .now) (s .args .marks .now) (s .pre .1)) })))
+    let v = two-visits _ _ _ _ _ _ (p .0) (c .before .before .before .leg-count .ensures .0) (p .1) (c .before .before .leg-count2 .ensures .0) in (
+      (u .triples, c .before .before .before .leg-count .ensures .1, u .at-most),
+      (
+        (w .triples, c .before .before .leg-count2 .ensures .1, w .at-most),
+        (
+          not-within,
+          record {
+            fits = λ o. room-at-start _ (s .args .points .now) (s .args .marks .now)
+                (room-of _ _ v (s .args .points .now) (s .args .marks .now) (s .pre .1));
+          },
+        ),
+      ),
+    )
 
 same-length : tie.Need-same-length
 same-length c = search needs
@@ -34,7 +45,8 @@ returns : tie.Need-returns
 unfolding visitsFrom
 returns c = let e = c .before .before .before .before in
     let p = c .before .before .before .before .before .before .before .before .before .before .before .before .before .pre .0 in
-    let v = two-visits _ _ _ _ _ _ (p .0) (c .before .before .before .before .before .before .before .before .leg-count .ensures .0) (p .1) (c .before .before .before .before .before .before .before .leg-count2 .ensures .0) in
+    let v = two-visits _ _ _ _ _ _ (p .0) (c .before .before .before .before .before .before .before .before .leg-count .ensures .0) (p .1)
+    (c .before .before .before .before .before .before .before .leg-count2 .ensures .0) in
     (e .visit .ensures .0 ∙ ap (tallyOn noTally) v, written-of _ _ v _ _ _ _ (e .visit .ensures .1 .on refl))
 
 pub visit-two-spec : {M : Type 1} → statement M

@@ -9,11 +9,17 @@ use borrow.Author.Needs.{needs}
 use Rattle.arcstring_crossing.proofs.planes.flag_at.Statement.{statement}
 use Rattle.arcstring_crossing.proofs.planes.flag_at.Tie as tie
 
+abbrev start : tie.After-side-values → tie.Start
+start q = q .before .before .before .before .before .before
+
 -- the class by what is read is that of the pair with any leg whose plane stands there
-class : (q : tie.After-side-values) (x : Leg) → PlaneAt (q .before .before .before .before .before .before .args .planes .now) (q .before .before .before .before .before .before .args .width) (q .before .before .before .before .before .before .args .k) (planeOf x) → classAt (q .before .before .before .xyz-cross .result) (planeLeg (q .before .before .before .before .before .before .args .a)) x (q .side-values .result) ≡ pairOf (planeLeg (q .before .before .before .before .before .before .args .a)) x
+class : (q : tie.After-side-values) (x : Leg) → PlaneAt (start q .args .planes .now) (start q .args .width) (start q .args .k) (planeOf x)
+    → classAt (q .before .before .before .xyz-cross .result) (planeLeg (start q .args .a)) x (q .side-values .result) ≡ pairOf (planeLeg (start q .args .a)) x
 class q x h =
-    let s = q .before .before .before .before .before .before in
-    read-class (s .args .a) (planeOf x) x (s .args .planes .now) (s .args .width) (s .args .k) _ _ _ _ _ (s .pre .3) refl h (q .before .before .before .before .run-at .ensures) (q .before .before .run-at2 .ensures) (q .before .run-at3 .ensures) (q .before .before .before .xyz-cross .ensures) (q .side-values .ensures)
+    let s = start q in
+    read-class (s .args .a) (planeOf x) x (s .args .planes .now) (s .args .width) (s .args .k) _ _ _ _ _ (s .pre .3) refl h
+    (q .before .before .before .before .run-at .ensures) (q .before .before .run-at2 .ensures) (q .before .run-at3 .ensures)
+    (q .before .before .before .xyz-cross .ensures) (q .side-values .ensures)
 
 run-at-requires : tie.Need-run-at-requires
 run-at-requires c κs = search needs

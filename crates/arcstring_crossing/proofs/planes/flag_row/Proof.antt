@@ -1,4 +1,5 @@
--- The flags of a leg's pairs, one after the other. The loop's invariant: they are right up to k, and where none is set all pairs up to k are apart. Assumes nothing.
+-- The flags of a leg's pairs, one after the other. The loop's invariant: they are right up to k, and where none is set all pairs up to k are apart. Assumes
+-- nothing.
 use mathlib.Core.Path.{_≡_, refl}
 use Prim.Native.Nat.{_-_, _≤_}
 use native.Mathlib.Omega.{arith}
@@ -10,7 +11,8 @@ use Rattle.arcstring_crossing.proofs.planes.flag_row.Statement.{stateme
 use Rattle.arcstring_crossing.proofs.planes.flag_row.Tie as tie
 
 abbrev Inv-loop : tie.InvT-loop
-Inv-loop a planes width from to flags₀ found₀ k₀ flags found k = (found ≤ k) × (from ≤ k) × (length flags ≡ length flags₀) × (found ≡ 0 → AllApart (planeLeg a) planes width from k) × FlagsOf (planeLeg a) planes width from k flags
+Inv-loop a planes width from to flags₀ found₀ k₀ flags found k = (found ≤ k) × (from ≤ k) × (length flags ≡ length flags₀)
+    × (found ≡ 0 → AllApart (planeLeg a) planes width from k) × FlagsOf (planeLeg a) planes width from k flags
 
 abbrev μ-loop : tie.MeasureT-loop
 μ-loop a planes width from to flags₀ found₀ k₀ flags found k = to - k
@@ -39,8 +41,14 @@ loop-less c = search needs
 
 loop-again : tie.Need-loop-again Inv-loop μ-loop
 loop-again c = let e = c .flag-at .ensures in
-    let d = c .before .before in
-    (omega (arith, e .0), omega arith, search needs, aparts-next _ _ _ _ _ _ _ (d .loop .inv .3) (e .1), flags-next _ _ _ _ _ _ _ (omega arith) (d .loop .inv .4) (e .1))
+    let d = c .before .before in (
+      omega (arith, e .0),
+      omega arith,
+      search needs,
+      aparts-next _ _ _ _ _ _ _ (d .loop .inv .3) (e .1),
+      flags-next _ _ _ _ _ _ _ (omega arith)
+          (d .loop .inv .4) (e .1),
+    )
 
 same-length : tie.Need-same-length Inv-loop μ-loop
 same-length c = search needs

@@ -11,7 +11,8 @@ use Rattle.arcstring_crossing.proofs.planes.gather.Statement.{statement
 use Rattle.arcstring_crossing.proofs.planes.gather.Tie as tie
 
 abbrev Inv-loop : tie.InvT-loop
-Inv-loop flags from to flagged₀ n₀ k₀ flagged n k = (n + from ≤ k) × (n ≤ to - from) × (length flagged ≡ length flagged₀) × (take n flagged ++ flaggedFrom flags k (to - k) ≡ flaggedFrom flags from (to - from)) × ((j : ℕ) → j < n → getD flagged j 0 < to)
+Inv-loop flags from to flagged₀ n₀ k₀ flagged n k = (n + from ≤ k) × (n ≤ to - from) × (length flagged ≡ length flagged₀)
+    × (take n flagged ++ flaggedFrom flags k (to - k) ≡ flaggedFrom flags from (to - from)) × ((j : ℕ) → j < n → getD flagged j 0 < to)
 
 abbrev μ-loop : tie.MeasureT-loop
 μ-loop flags from to flagged₀ n₀ k₀ flagged n k = to - k
@@ -47,8 +48,15 @@ loop-again c = let d = c .before .before .before in
     let more = c .before .before .loop-test .taken in
     let e = c .next-place .ensures in
     let place = gathered-place (s .args .flags .now) (d .loop .k) (d .loop .n) _ e in
-    let room : d .loop .n < length (d .loop .flagged) = omega (arith, i, more, s .pre) in
-    (omega (arith, i, place), omega (arith, i, more, place), search needs, gathered-on (s .args .flags .now) (s .args .to) (d .loop .k) (d .loop .n) (d .loop .flagged) more room _ _ e (i .3), gathered-below (s .args .flags .now) (s .args .to) (d .loop .k) (d .loop .n) (d .loop .flagged) more room _ e (i .4))
+    let room : d .loop .n < length (d .loop .flagged) = omega (arith, i, more, s .pre) in (
+      omega (arith, i, place),
+      omega (arith, i, more, place),
+      search needs,
+      gathered-on (s .args .flags .now) (s .args .to) (d .loop .k) (d .loop .n)
+          (d .loop .flagged) more room _ _ e (i .3),
+      gathered-below (s .args .flags .now) (s .args .to) (d .loop .k) (d .loop .n) (d .loop .flagged) more room _
+          e (i .4),
+    )
 
 same-length : tie.Need-same-length Inv-loop μ-loop
 same-length c = search needs
@@ -56,8 +64,15 @@ same-length c = search needs
 returns : tie.Need-returns Inv-loop μ-loop
 returns c = let d = c .before in
     let s = d .before .before .before in
-    let i = d .loop .inv in
-    ((i .1, omega (arith, i, s .pre), gathered-all (s .args .flags .now) (s .args .to) (d .loop .k) (d .loop .n) (d .loop .flagged) _ (c .loop-test .left) (i .3)), i .4)
+    let i = d .loop .inv in (
+      (
+        i .1,
+        omega (arith, i, s .pre),
+        gathered-all (s .args .flags .now) (s .args .to) (d .loop .k) (d .loop .n) (d .loop .flagged) _ (c .loop-test .left)
+            (i .3),
+      ),
+      i .4,
+    )
 
 pub gather-spec : {M : Type 1} → statement M
 gather-spec =

@@ -9,11 +9,18 @@ use borrow.Author.Needs.{needs}
 use Rattle.arcstring_crossing.proofs.planes.pair_at.Statement.{statement}
 use Rattle.arcstring_crossing.proofs.planes.pair_at.Tie as tie
 
+abbrev start : tie.After-side-values → tie.Start
+start q = q .before .before .before .before .before .before .before
+
 -- the class by what is read is that of the pair
-class : (q : tie.After-side-values) → classAt (q .before .before .before .xyz-cross .result) (planeLeg (q .before .before .before .before .before .before .before .args .a)) (legAt (q .before .before .before .before .before .before .before .args .v .now) (q .before .before .before .before .before .before .before .args .n) (q .before .before .before .before .before .before .before .args .k)) (q .side-values .result) ≡ pairOf (planeLeg (q .before .before .before .before .before .before .before .args .a)) (legAt (q .before .before .before .before .before .before .before .args .v .now) (q .before .before .before .before .before .before .before .args .n) (q .before .before .before .before .before .before .before .args .k))
+class : (q : tie.After-side-values) → classAt (q .before .before .before .xyz-cross .result) (planeLeg (start q .args .a))
+    (legAt (start q .args .v .now) (start q .args .n) (start q .args .k)) (q .side-values .result)
+    ≡ pairOf (planeLeg (start q .args .a)) (legAt (start q .args .v .now) (start q .args .n) (start q .args .k))
 class q =
-    let s = q .before .before .before .before .before .before .before in
-    read-class (s .args .a) (planeOf (legAt (s .args .v .now) (s .args .n) (s .args .k))) _ (s .args .planes .now) (s .args .width) (s .args .k) _ _ _ _ _ (s .pre .1 .0) refl (s .pre .1 .1) (q .before .before .before .before .run-at .ensures) (q .before .before .run-at2 .ensures) (q .before .run-at3 .ensures) (q .before .before .before .xyz-cross .ensures) (q .side-values .ensures)
+    let s = start q in
+    read-class (s .args .a) (planeOf (legAt (s .args .v .now) (s .args .n) (s .args .k))) _ (s .args .planes .now) (s .args .width) (s .args .k) _ _ _ _ _
+    (s .pre .1 .0) refl (s .pre .1 .1) (q .before .before .before .before .run-at .ensures) (q .before .before .run-at2 .ensures)
+    (q .before .run-at3 .ensures) (q .before .before .before .xyz-cross .ensures) (q .side-values .ensures)
 
 run-at-requires : tie.Need-run-at-requires
 run-at-requires c κs = search needs
@@ -44,7 +51,9 @@ class-at-requires c κs = search needs
 
 returns : tie.Need-returns
 returns c = let q = c .before .before .before .before in
-    class-of-leg _ _ _ _ _ _ _ _ _ (c .class-at .ensures) (c .before .before .before .vertex-at .ensures) (c .before .vertex-at2 .ensures) (c .before .before .leg-end .ensures .1 (c .before .before .before .before .before .before .before .before .before .before .before .args .v .now)) ∙ class q
+    class-of-leg _ _ _ _ _ _ _ _ _ (c .class-at .ensures) (c .before .before .before .vertex-at .ensures) (c .before .vertex-at2 .ensures)
+    (c .before .before .leg-end .ensures .1 (c .before .before .before .before .before .before .before .before .before .before .before .args .v .now))
+    ∙ class q
 
 pub pair-at-spec : {M : Type 1} → statement M
 pair-at-spec =

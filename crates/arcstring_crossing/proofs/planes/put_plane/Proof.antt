@@ -19,8 +19,13 @@ same-length c = search needs
 returns : tie.Need-returns
 returns c = let s = c .before .before .before .before .before .before .before .before .before .before .before .before .before in
     let p = s .pre in
-    let q = s .args .p in
-    (plane-written _ _ _ _ _ _ q (p .0) (p .1) (c .before .before .before .before .before .before .before .before .before .before .put-run .ensures) (c .before .before .before .before .before .before .put-run2 .ensures) (c .before .before .put-run3 .ensures), plane-stays _ _ _ _ _ _ q (p .0) (p .1) (c .before .before .before .before .before .before .before .before .before .before .put-run .ensures) (c .before .before .before .before .before .before .put-run2 .ensures) (c .before .before .put-run3 .ensures))
+    let q = s .args .p in (
+      plane-written _ _ _ _ _ _ q (p .0) (p .1) (c .before .before .before .before .before .before .before .before .before .before .put-run .ensures)
+          (c .before .before .before .before .before .before .put-run2 .ensures) (c .before .before .put-run3 .ensures),
+      plane-stays _ _ _ _ _ _ q (p .0) (p .1)
+          (c .before .before .before .before .before .before .before .before .before .before .put-run .ensures)
+          (c .before .before .before .before .before .before .put-run2 .ensures) (c .before .before .put-run3 .ensures),
+    )
 
 pub put-plane-spec : {M : Type 1} → statement M
 put-plane-spec =

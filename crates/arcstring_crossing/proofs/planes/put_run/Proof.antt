@@ -33,7 +33,12 @@ mul-planes-4 : tie.Need-mul-planes-4
 mul-planes-4 c = search needs
 
 slice-write-planes-2 : tie.Need-slice-write-planes-2
-slice-write-planes-2 c = omega (arith, room-in-run (c .args .planes .now) (c .args .width) (c .args .j) (c .args .k) (c .args .p) (c .pre .1) (c .pre .0) 1 (omega arith), length-set (c .args .planes .now) (c .args .j * c .args .width + c .args .k) (c .args .p .x))
+slice-write-planes-2 c = omega (
+  arith,
+  room-in-run (c .args .planes .now) (c .args .width) (c .args .j) (c .args .k) (c .args .p) (c .pre .1) (c .pre .0) 1
+      (omega arith),
+  length-set (c .args .planes .now) (c .args .j * c .args .width + c .args .k) (c .args .p .x),
+)
 
 add-planes-4 : tie.Need-add-planes-4
 add-planes-4 c = search needs
@@ -48,7 +53,14 @@ mul-planes-6 : tie.Need-mul-planes-6
 mul-planes-6 c = search needs
 
 slice-write-planes-3 : tie.Need-slice-write-planes-3
-slice-write-planes-3 c = omega (arith, room-in-run (c .args .planes .now) (c .args .width) (c .args .j) (c .args .k) (c .args .p) (c .pre .1) (c .pre .0) 2 (omega arith), length-set (c .args .planes .now) (c .args .j * c .args .width + c .args .k) (c .args .p .x), length-set (set (c .args .planes .now) (c .args .j * c .args .width + c .args .k) (c .args .p .x)) ((c .args .j + 1) * c .args .width + c .args .k) (c .args .p .y))
+slice-write-planes-3 c = omega (
+  arith,
+  room-in-run (c .args .planes .now) (c .args .width) (c .args .j) (c .args .k) (c .args .p) (c .pre .1) (c .pre .0) 2
+      (omega arith),
+  length-set (c .args .planes .now) (c .args .j * c .args .width + c .args .k) (c .args .p .x),
+  length-set
+      (set (c .args .planes .now) (c .args .j * c .args .width + c .args .k) (c .args .p .x)) ((c .args .j + 1) * c .args .width + c .args .k) (c .args .p .y),
+)
 
 same-length : tie.Need-same-length
 same-length c = search needs

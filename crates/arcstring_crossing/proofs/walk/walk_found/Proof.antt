@@ -1,4 +1,5 @@
--- A leg against the legs at some positions, counted on and, if the walk writes, written. The loop's invariant: what is counted, with the pairs still to be visited counted on, is the count of all pairs, and so of what is written. Assumes nothing.
+-- A leg against the legs at some positions, counted on and, if the walk writes, written. The loop's invariant: what is counted, with the pairs still to be
+-- visited counted on, is the count of all pairs, and so of what is written. Assumes nothing.
 use mathlib.Core.Path.{_≡_, refl}
 use mathlib.Core.List.{[], _∷_, _++_}
 use Prim.Native.Nat.{_+_, _-_}
@@ -14,14 +15,23 @@ use Rattle.arcstring_crossing.proofs.walk.walk_found.Statement.{stateme
 use Rattle.arcstring_crossing.proofs.walk.walk_found.Tie as tie
 
 abbrev Inv-loop : tie.InvT-loop
-Inv-loop arc planes width flagged m v n l write points₀ marks₀ t₀ j₀ points marks t j = (tallyOn t (foundPairs (planeLeg arc) v n flagged j m) ≡ tallyOn t₀ (foundPairs (planeLeg arc) v n flagged 0 m)) × WalksSame write (foundPairs (planeLeg arc) v n flagged 0 m) (t₀ .kept) points₀ marks₀ (foundPairs (planeLeg arc) v n flagged j m) (t .kept) points marks × (length points ≡ length points₀) × (length marks ≡ length marks₀)
+Inv-loop arc planes width flagged m v n l write points₀ marks₀ t₀ j₀ points marks t j =
+    (tallyOn t (foundPairs (planeLeg arc) v n flagged j m) ≡ tallyOn t₀ (foundPairs (planeLeg arc) v n flagged 0 m))
+    × WalksSame write (foundPairs (planeLeg arc) v n flagged 0 m) (t₀ .kept) points₀ marks₀ (foundPairs (planeLeg arc) v n flagged j m) (t .kept) points marks
+    × (length points ≡ length points₀) × (length marks ≡ length marks₀)
 
 abbrev μ-loop : tie.MeasureT-loop
 μ-loop arc planes width flagged m v n l write points₀ marks₀ t₀ j₀ points marks t j = m - j
 
+abbrev start : tie.After-pair-at Inv-loop μ-loop → tie.Start Inv-loop μ-loop
+start e = e .before .before .before .before .before .before .before .before .before
+
 -- the pairs still to be visited begin with the one that is read
-next : (e : tie.After-pair-at Inv-loop μ-loop) → foundPairs (planeLeg (e .before .before .before .before .before .before .before .before .before .args .arc)) (e .before .before .before .before .before .before .before .before .before .args .v .now) (e .before .before .before .before .before .before .before .before .before .args .n) (e .before .before .before .before .before .before .before .before .before .args .flagged .now) (e .before .before .before .loop .j) (e .before .before .before .before .before .before .before .before .before .args .m) ≡ (e .pair-at .result ∷ []) ++ foundPairs (planeLeg (e .before .before .before .before .before .before .before .before .before .args .arc)) (e .before .before .before .before .before .before .before .before .before .args .v .now) (e .before .before .before .before .before .before .before .before .before .args .n) (e .before .before .before .before .before .before .before .before .before .args .flagged .now) (e .before .before .before .loop .j + 1) (e .before .before .before .before .before .before .before .before .before .args .m)
-next e = let s = e .before .before .before .before .before .before .before .before .before in
+next : (e : tie.After-pair-at Inv-loop μ-loop) → foundPairs (planeLeg (start e .args .arc)) (start e .args .v .now) (start e .args .n)
+    (start e .args .flagged .now) (e .before .before .before .loop .j) (start e .args .m)
+    ≡ (e .pair-at .result ∷ []) ++ foundPairs (planeLeg (start e .args .arc)) (start e .args .v .now) (start e .args .n) (start e .args .flagged .now)
+    (e .before .before .before .loop .j + 1) (start e .args .m)
+next e = let s = start e in
     found-next _ _ _ _ _ _ _ _ (e .before .before .loop-test .taken) (s .pre .1 .0 .0) refl (e .pair-at .ensures)
 
 loop-holds : tie.Need-loop-holds Inv-loop μ-loop
@@ -43,12 +53,18 @@ pair-at-requires c κs = let s = c .before .before .before .before .before .befo
 store-if-requires : tie.Need-store-if-requires Inv-loop μ-loop
 store-if-requires c κs = let e = c .before .before in
     let d = c .before .before .before .before .before in
-    walk-room _ _ _ _ _ (c .before .before .before .before .before .before .before .before .before .before .before .pre .1 .1) (d .loop .t) _ _ _ _ _ (next e) (d .loop .inv .1)
+    walk-room _ _ _ _ _ (c .before .before .before .before .before .before .before .before .before .before .before .pre .1 .1) (d .loop .t) _ _ _ _ _ (next e)
+    (d .loop .inv .1)
 
 add-requires : tie.Need-add-requires Inv-loop μ-loop
 add-requires c κs = let d = c .before .before .before .before .before .before .before .before .before .before in
     let s = c .before .before .before .before .before .before .before .before .before .before .before .before .before .before .before .before in
-    omega (arith, sum-so-far (d .loop .t) (s .args .start) _ _ (s .args .m) (d .loop .inv .0) (found-few (planeLeg (s .args .arc)) (s .args .v .now) (s .args .n) (s .args .flagged .now) (s .args .m) (s .pre .1 .0 .0)), s .pre .0 .3)
+    omega (
+      arith,
+      sum-so-far (d .loop .t) (s .args .start) _ _ (s .args .m) (d .loop .inv .0)
+          (found-few (planeLeg (s .args .arc)) (s .args .v .now) (s .args .n) (s .args .flagged .now) (s .args .m) (s .pre .1 .0 .0)),
+      s .pre .0 .3,
+    )
 
 add-j : tie.Need-add-j Inv-loop μ-loop
 add-j c = search needs
@@ -58,8 +74,15 @@ loop-less c = search needs
 
 loop-again : tie.Need-loop-again Inv-loop μ-loop
 loop-again c = let e = c .before .before .before .before .before .before .before .before in
-    let d = c .before .before .before .before .before .before .before .before .before .before .before in
-    (counted-on _ _ _ _ _ _ (next e) (c .add .ensures) (d .loop .inv .0), walk-on _ _ _ _ _ (c .before .before .before .before .before .before .before .before .before .before .before .before .before .before .before .before .before .pre .1 .1) (d .loop .t) _ _ _ _ _ _ _ _ (next e) (d .loop .inv .1) (c .add .ensures) (c .before .before .before .before .before .store-if .ensures), search needs, search needs)
+    let d = c .before .before .before .before .before .before .before .before .before .before .before in (
+      counted-on _ _ _ _ _ _ (next e) (c .add .ensures) (d .loop .inv .0),
+      walk-on _ _ _ _ _
+          (c .before .before .before .before .before .before .before .before .before .before .before .before .before .before .before .before .before .pre .1 .1)
+          (d .loop .t) _ _ _ _ _ _ _ _ (next e) (d .loop .inv .1) (c .add .ensures) (c .before .before .before .before .before .store-if .ensures),
+      search
+          needs,
+      search needs,
+    )
 
 same-length : tie.Need-same-length Inv-loop μ-loop
 same-length c = search needs
@@ -69,8 +92,11 @@ same-length-2 c = search needs
 
 returns : tie.Need-returns Inv-loop μ-loop
 returns c = let d = c .before in
-    let none = found-none _ _ _ _ _ _ (c .loop-test .left) in
-    (counted-all _ _ _ none (d .loop .inv .0), walk-done _ _ _ _ _ (c .before .before .before .before .before .before .before .pre .1 .1) (d .loop .t) _ _ _ none (d .loop .inv .1))
+    let none = found-none _ _ _ _ _ _ (c .loop-test .left) in (
+      counted-all _ _ _ none (d .loop .inv .0),
+      walk-done _ _ _ _ _ (c .before .before .before .before .before .before .before .pre .1 .1) (d .loop .t) _ _ _
+          none (d .loop .inv .1),
+    )
 
 pub walk-found-spec : {M : Type 1} → statement M
 walk-found-spec =

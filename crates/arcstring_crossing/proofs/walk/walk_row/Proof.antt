@@ -26,23 +26,50 @@ returns : tie.Need-returns
 returns c = let s = c .before .before .before .before .before .before .before .before .before .before .before .before in
     let p = s .pre .0 in
     let e = row-apart _ _ _ (p .0) _ _ _ _ (p .1) (p .5) (c .before .before .before .before .flag-row .ensures .0 (c .before .if1 .taken)) in
-    let z : s .args .to - s .args .from - 0 ≡ s .args .to - s .args .from = omega arith in
-    (c .add-apart .ensures ∙ ap (tallyOn (s .args .start)) (ap (λ (m : ℕ). replicate m Apart) z ∙ sym e), aparts-written _ _ (s .args .to - s .args .from) _ _ _ e)
+    let z : s .args .to - s .args .from - 0 ≡ s .args .to - s .args .from = omega arith in (
+      c .add-apart .ensures ∙ ap (tallyOn (s .args .start)) (ap (λ (m : ℕ). replicate m Apart) z ∙ sym e),
+      aparts-written _ _ (s .args .to - s .args .from) _ _
+          _ e,
+    )
 
 gather-requires : tie.Need-gather-requires
-gather-requires c κs = (search needs, search needs, omega (arith, c .before .before .before .before .before .before .before .before .before .before .before .before .before .pre .0))
+gather-requires c κs = (
+  search needs,
+  search needs,
+  omega (
+    arith,
+    c .before .before .before .before .before .before .before .before .before .before .before
+        .before .before .pre .0,
+  ),
+)
 
 add-apart-requires-2 : tie.Need-add-apart-requires-2
-add-apart-requires-2 c κs = (omega (arith, c .before .before .before .before .before .before .before .before .before .before .before .before .before .before .before .before .pre .0), omega (arith, c .before .before .before .before .before .before .before .before .before .before .before .before .before .before .before .before .pre .0), c .before .before .gather .ensures .0 .0)
+add-apart-requires-2 c κs = (
+  omega (
+    arith,
+    c .before .before .before .before .before .before .before .before .before .before .before .before .before .before
+        .before .before .pre .0,
+  ),
+  omega (
+    arith,
+    c .before .before .before .before .before .before .before .before .before .before .before .before .before .before
+        .before .before .pre .0,
+  ),
+  c .before .before .gather .ensures .0 .0,
+)
 
 walk-found-requires : tie.Need-walk-found-requires
-walk-found-requires c κs = let s = c .before .before .before .before .before .before .before .before .before .before .before .before .before .before .before .before .before .before .before .before in
+walk-found-requires c κs = let s = c .before .before .before .before .before .before .before .before .before .before .before .before .before .before .before
+    .before .before .before .before .before in
     let p = s .pre .0 in
     let g = c .before .before .before .before .before .before .gather .ensures in
     let m = c .before .before .before .before .before .before .gather .result in
     let u = c .before .before .before .add-apart2 .ensures in
-    let r = row-sifted _ _ _ (p .0) _ _ _ _ (p .1) (p .5) _ (c .before .before .before .before .before .before .before .before .before .before .before .before .flag-row .ensures .1) _ _ (g .0 .2) (g .0 .1) in
-    ((p .0, p .1, p .2, sum-with-rest _ _ (s .args .to - s .args .from - m) m _ u (omega (arith, g .0 .0, p .1)) (p .3), p .4, p .5), ((g .0 .1, g .1), room-at _ _ _ _ (s .args .to - s .args .from - m) u _ _ (sifted-room r _ _ _ _ (s .pre .1 .1))))
+    let r = row-sifted _ _ _ (p .0) _ _ _ _ (p .1) (p .5) _ (c .before .before .before .before .before .before .before .before .before .before .before .before
+    .flag-row .ensures .1) _ _ (g .0 .2) (g .0 .1) in (
+      (p .0, p .1, p .2, sum-with-rest _ _ (s .args .to - s .args .from - m) m _ u (omega (arith, g .0 .0, p .1)) (p .3), p .4, p .5),
+      ((g .0 .1, g .1), room-at _ _ _ _ (s .args .to - s .args .from - m) u _ _ (sifted-room r _ _ _ _ (s .pre .1 .1))),
+    )
 
 same-length-2 : tie.Need-same-length-2
 same-length-2 c = search needs
@@ -57,12 +84,14 @@ same-length-5 : tie.Need-same-length-5
 same-length-5 c = search needs
 
 returns-2 : tie.Need-returns-2
-returns-2 c = let s = c .before .before .before .before .before .before .before .before .before .before .before .before .before .before .before .before .before .before .before .before .before .before .before .before .before in
+returns-2 c = let s = c .before .before .before .before .before .before .before .before .before .before .before .before .before .before .before .before
+    .before .before .before .before .before .before .before .before .before in
     let p = s .pre .0 in
     let g = c .before .before .before .before .before .before .before .before .before .before .before .gather .ensures in
     let m = c .before .before .before .before .before .before .before .before .before .before .before .gather .result in
     let u = c .before .before .before .before .before .before .before .before .add-apart2 .ensures in
-    let r = row-sifted _ _ _ (p .0) _ _ _ _ (p .1) (p .5) _ (c .before .before .before .before .before .before .before .before .before .before .before .before .before .before .before .before .before .flag-row .ensures .1) _ _ (g .0 .2) (g .0 .1) in
+    let r = row-sifted _ _ _ (p .0) _ _ _ _ (p .1) (p .5) _ (c .before .before .before .before .before .before .before .before .before .before .before .before
+    .before .before .before .before .before .flag-row .ensures .1) _ _ (g .0 .2) (g .0 .1) in
     let e = c .before .before .before .before .walk-found .ensures in
     (sifted-tally r _ _ _ u (e .0), sifted-written r _ _ _ _ _ _ (written-at _ _ _ _ (s .args .to - s .args .from - m) u _ _ _ _ (e .1)))
 
