@@ -1,25 +1,18 @@
--- Side values of which none grazes, with both signs among them, show that a pair is apart; and where they have one sign, which point the class is of. Assumes
--- nothing.
+-- Side values of which none grazes, with both signs among them, show that a pair is apart. Assumes nothing.
 use mathlib.Core.Path.{_≡_, refl, sym, ap, ap₂, _∙_}
 use mathlib.Core.Bool.{Bool, true, false, not, _&&_, _||_}
 use mathlib.Core.List.{List, [], _∷_}
 use Prim.Native.Nat.{ℕ}
 use native.Mathlib.Omega.{arith}
 use lib.ListN.{length, getD}
-use lib.Ieee.{Float, nan, inf, fin, neg, ofBits}
+use lib.Ieee.{Float, nan, inf, fin, ofBits}
 use Rattle.sphericalpoint.specs.declared.SphericalPoint.{SphericalPoint}
-use Rattle.sphericalpoint.specs.Vector.{xyzNeg}
 use Rattle.arcstring.specs.Answer.{pick}
-use Rattle.arcstring.specs.Points.{point}
-use Rattle.arcstring_crossing.specs.declared.crossing.Pair.{Pair}
 use Rattle.arcstring_crossing.specs.declared.crossing.Pair.the-variants.{Apart}
-use Rattle.arcstring_crossing.specs.Crossing.{Leg, grazes, isAbove, isBelow, signNegative, signPositive, someSide, everySide, endOrClean, classAt}
+use Rattle.arcstring_crossing.specs.Crossing.{Leg, grazes, isAbove, isBelow, signNegative, signPositive, someSide, everySide, classAt}
 use Rattle.arcstring_crossing.specs.Plane.{showsApart}
-use Rattle.arcstring_crossing.proofs.Classes.{apart-class, above-class, below-class}
-use Rattle.arcstring_crossing.proofs.Signs.{positive-of-other, negative-of-other, above-is-no-zero, below-is-no-zero}
-
-no : {A : Type 0} → _≡_ {A = Bool} false true → A
-no e = absurd (let z : _≡_ {A = ℕ} 0 1 = cc in omega arith)
+use Rattle.arcstring_crossing.proofs.Classes.{apart-class}
+use Rattle.arcstring_crossing.proofs.Signs.{no, positive-of-other, negative-of-other, above-is-no-zero, below-is-no-zero}
 
 -- ---- any tests of the side values: one that rules out another
 
@@ -127,21 +120,3 @@ module _ (t : SphericalPoint) (a b : Leg) (s : List Float) where
   shows-apart h =
       let k = all-three (someSide grazes s) (someSide isAbove s) (someSide isBelow s) h in
       apart-class t a b s (k .0) (some-not-every isBelow isAbove below-not-above s (k .2)) (some-not-every isAbove isBelow above-not-below s (k .1))
-
-  -- the signs agree: the point turned unless they are above
-  pub signs-class : (r : Pair) (u : SphericalPoint) (above below : Bool) → someSide grazes s ≡ false → above ≡ everySide isAbove s → below ≡ everySide isBelow s
-      → (above || below) ≡ true → u ≡ pick above t (xyzNeg t) → r ≡ endOrClean u a b → r ≡ classAt t a b s
-  signs-class r u true below h i j o e k = above-class t a b s r h (sym i) (k ∙ ap (λ (p : SphericalPoint). endOrClean p a b) e)
-  signs-class r u false below h i j o e k = below-class t a b s r u h (sym i) (sym j ∙ o) e k
-
-  pub no-signs-class : (above below : Bool) → someSide grazes s ≡ false → above ≡ everySide isAbove s → below ≡ everySide isBelow s → (above || below) ≡ false
-      → Apart ≡ classAt t a b s
-  no-signs-class true below h i j o = no (sym o)
-  no-signs-class false below h i j o = apart-class t a b s h (sym i) (sym j ∙ o)
-
-pub turned-point : (keep : Bool) (t : SphericalPoint) (x y z : Float) → x ≡ pick keep (t .x) (neg (t .x)) → y ≡ pick keep (t .y) (neg (t .y)) → z
-    ≡ pick keep (t .z) (neg (t .z))
-    → point x y z ≡ pick keep t (xyzNeg t)
-unfolding xyzNeg
-turned-point true t x y z hx hy hz = rw (hx, hy, hz)
-turned-point false t x y z hx hy hz = rw (hx, hy, hz)

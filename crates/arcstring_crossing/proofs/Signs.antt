@@ -18,7 +18,8 @@ zero64 = ofBits binary64 0
 abbrev one64 : Float
 one64 = ofBits binary64 0x3ff0_0000_0000_0000
 
-no : {A : Type 0} → _≡_ {A = Bool} false true → A
+-- false is not true
+pub no : {A : Type 0} → _≡_ {A = Bool} false true → A
 no e = absurd (let z : _≡_ {A = ℕ} 0 1 = cc in omega arith)
 
 both : (a b : Bool) → a && b ≡ true → a ≡ true

@@ -65,10 +65,6 @@ module _ (write : Bool) (all : List Pair) (at : ℕ) (points : List Float) (mark
 pub no-room-asked : (write : Bool) (ps : List Pair) (at : ℕ) (points : List Float) (marks : List ℕ) → write ≡ false → RoomIf write ps at points marks
 no-room-asked write ps at points marks h = record { fits = λ o. absurd (let z : _≡_ {A = ℕ} 0 1 = cc in omega arith) }
 
--- nor does a walk between two strings ask that they be one
-pub not-within : {A : Type 0} → _≡_ {A = Bool} false true → A
-not-within e = absurd (let z : _≡_ {A = ℕ} 0 1 = cc in omega arith)
-
 -- what one call has written
 pub written-if : (write : Bool) (ps : List Pair) (at : ℕ) (points : List Float) (marks : List ℕ) (points' : List Float) (marks' : List ℕ) → write ≡ true
     → (points' ≡ splice points (3 * at) (flat (map markPoint (keptMarks ps)))) × (marks' ≡ splice marks at (map markByte (keptMarks ps)))

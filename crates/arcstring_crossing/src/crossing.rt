@@ -2,8 +2,8 @@
 ghost use mathlib.Core.Path.{_≡_};
 ghost use mathlib.Core.Bool.{true};
 ghost use mathlib.Core.List.{[], _∷_};
-ghost use lib.Ieee.{neg, lt};
-ghost use Rattle.sphericalpoint.specs.Vector.{xyzDot, xyzNeg};
+ghost use lib.Ieee.{lt};
+ghost use Rattle.sphericalpoint.specs.Vector.{xyzDot};
 ghost use Rattle.arcstring.specs.Answer.{pick};
 ghost use Rattle.arcstring.specs.Check.{checkNumber};
 ghost use Rattle.arcstring_crossing.specs.Plane.{planeLeg, planeOf, showsApart};
@@ -234,24 +234,6 @@ fn end_or_clean(
     }
 }
 
-// A float or its negative.
-fn signed(x: f64, keep: bool) -> f64
-    ensures { λ r. ⌜ r ≡ pick keep x (neg x) ⌝ }
-{
-    if keep { x } else { -x }
-}
-
-// A point or its negative, with no branch.
-fn turned(t: SphericalPoint, keep: bool) -> SphericalPoint
-    ensures { λ r. ⌜ r ≡ pick keep t (xyzNeg t) ⌝ }
-{
-    SphericalPoint {
-        x: signed(t.x, keep),
-        y: signed(t.y, keep),
-        z: signed(t.z, keep),
-    }
-}
-
 // The greater of two floats, with no branch.
 fn greater(x: f64, y: f64) -> f64
     ensures { λ r. ⌜ r ≡ pick (lt y x) x y ⌝ }
@@ -300,9 +282,11 @@ pub(crate) fn class_at(
     if some_grazing(s) {
         return Pair::Grazing(grazing_outcome(t, a0, a1, b0, b1, s));
     }
-    let above = all_above(s);
-    if above | all_below(s) {
-        return end_or_clean(turned(t, above), a0, a1, b0, b1);
+    if all_above(s) {
+        return end_or_clean(t, a0, a1, b0, b1);
+    }
+    if all_below(s) {
+        return end_or_clean(sphericalpoint::xyz_neg(t), a0, a1, b0, b1);
     }
     Pair::Apart
 }

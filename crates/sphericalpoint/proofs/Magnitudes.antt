@@ -1,6 +1,6 @@
 -- The larger of x and -x has the value of x's size, and a sum of three such floats compares as the sum of the sizes. Assumes nothing.
 use mathlib.Core.Path.{_≡_, refl, sym}
-use mathlib.Core.Bool.{Bool, true, false}
+use mathlib.Core.Bool.{true, false}
 use Prim.Native.Nat.{ℕ, zero, suc, _+_, _*_, _<_}
 use native.Mathlib.Omega.{arith}
 use native.Mathlib.Nat.{mul-pos}
@@ -14,9 +14,7 @@ use Rattle.ieee754.proofs.ByValue.{add-value}
 use Rattle.ieee754.proofs.Comparisons.{lt-value}
 use Rattle.sphericalpoint.specs.declared.SphericalPoint.{SphericalPoint}
 use Rattle.sphericalpoint.specs.Vector.{xyzAbs, xyzSum}
-
-no : {A : Type 0} → _≡_ {A = Bool} false true → A
-no e = absurd (let z : _≡_ {A = ℕ} 0 1 = cc in omega arith)
+use Rattle.sphericalpoint.proofs.Sizes.{no}
 
 some : (m : ℕ) (e : ℤ) → 0 < suc m * up e * down e
 some m e = mul-pos (mul-pos (omega arith) (up-pos e)) (down-pos e)

@@ -14,7 +14,8 @@ use Rattle.ieee754.specs.Size.{abs}
 abbrev nought : Float
 nought = ofBits binary64 0
 
-no : {A : Type 0} → _≡_ {A = Bool} false true → A
+-- false is not true
+pub no : {A : Type 0} → _≡_ {A = Bool} false true → A
 no e = absurd (let z : _≡_ {A = ℕ} 0 1 = cc in omega arith)
 
 some : (m : ℕ) (e : ℤ) → 0 < suc m * up e

@@ -4,7 +4,7 @@ use Rattle.arcstring.proofs.Checks.{stored-whole, stored-some}
 use Rattle.arcstring_crossing.specs.Tally.{noTally, tallyOn, visitsFrom}
 use Rattle.arcstring_crossing.proofs.Marks.{room-at-start, room-of, written-of}
 use Rattle.arcstring_crossing.proofs.Visits.{two-visits}
-use Rattle.arcstring_crossing.proofs.Walks.{not-within}
+use Rattle.arcstring_crossing.proofs.Signs.{no}
 use borrow.Author.Needs.{needs}
 use Rattle.arcstring_crossing.proofs.listing.visit_two.Statement.{statement}
 use Rattle.arcstring_crossing.proofs.listing.visit_two.Tie as tie
@@ -26,7 +26,7 @@ visit-requires c κs = let s = c .before .before .before .before .before .before
       (
         (w .triples, c .before .before .leg-count2 .ensures .1, w .at-most),
         (
-          not-within,
+          no,
           record {
             fits = λ o. room-at-start _ (s .args .points .now) (s .args .marks .now)
                 (room-of _ _ v (s .args .points .now) (s .args .marks .now) (s .pre .1));

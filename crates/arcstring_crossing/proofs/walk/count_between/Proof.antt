@@ -1,7 +1,8 @@
 -- The legs of one string against those of another, counted. Assumes nothing.
 use mathlib.Core.Path.{refl}
 use Rattle.arcstring_crossing.specs.Tally.{visitsFrom}
-use Rattle.arcstring_crossing.proofs.Walks.{no-room-asked, not-within}
+use Rattle.arcstring_crossing.proofs.Walks.{no-room-asked}
+use Rattle.arcstring_crossing.proofs.Signs.{no}
 use borrow.Author.Needs.{needs}
 use Rattle.arcstring_crossing.proofs.walk.count_between.Statement.{statement}
 use Rattle.arcstring_crossing.proofs.walk.count_between.Tie as tie
@@ -14,7 +15,7 @@ slice-aggregate-visit-2 c = search needs
 
 visit-requires : tie.Need-visit-requires
 visit-requires c κs = let p = c .before .before .before .before .pre in
-    (p .0, (p .1, (not-within, no-room-asked _ _ _ _ _ refl)))
+    (p .0, (p .1, (no, no-room-asked _ _ _ _ _ refl)))
 
 returns : tie.Need-returns
 unfolding visitsFrom
