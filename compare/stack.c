@@ -49,11 +49,11 @@ static void within(void) { refusal = arcstring_within(a, 3 * n, b, 3 * n, b, 3 *
 static void turns(void) { refusal = arcstring_turn_orientations(a, 3 * n, 1, out, 3 * MOST, &length); }
 static void midpoints(void) { refusal = arcstring_midpoints(a, 3 * n, 1, out, 3 * MOST, &length); }
 static void simplify(void) { refusal = arcstring_simplify(a, 3 * n, 0, out, 3 * MOST, &length); }
-static void insert(void) { refusal = arcstring_insert_vertices(a, 3 * (n - 8), 0, cuts, 3, out, 3 * MOST, &length); }
+static void insert(void) { refusal = arcstring_insert_vertices(a, 3 * n / 2, 0, cuts, 3, out, 3 * MOST, &length); }
 static void split_leg(void) { refusal = arcstring_split_leg(a, cuts, 3, out, 3 * MOST, &length); }
 static void split(void)
 {
-    refusal = arcstring_split(a, 3 * (n - 8), 0, cuts, 3, out, 3 * MOST, lengths, MOST, flags, MOST, &length);
+    refusal = arcstring_split(a, 3 * n / 2, 0, cuts, 3, out, 3 * MOST, lengths, MOST, flags, MOST, &length);
 }
 static void equals(void) { refusal = arcstring_equals(a, 3 * n, a, 3 * n, 0, b, 3 * n, b, 3 * n, 0, &flag); }
 static void overlaps(void) { refusal = arcstring_overlaps(a, 3 * n, a, 3 * n, 0, b, 3 * n, b, 3 * n, 0, &flag); }
@@ -104,25 +104,29 @@ static size_t used(const struct call *call)
     return STACK - low;
 }
 
-int main(void)
+/* the most that a call takes with strings of either size */
+static size_t most(const struct call *call)
 {
     static const struct call nothing = {"nothing", none};
     static const size_t sizes[2] = {64, MOST};
-    size_t i, k;
-    printf("| call | stack, %zu vertices | %zu vertices |\n|---|---|---|\n", sizes[0], sizes[1]);
-    for (i = 0; i < sizeof calls / sizeof calls[0]; i++) {
-        printf("| %s |", calls[i].name);
-        for (k = 0; k < 2; k++) {
-            size_t least;
-            n = sizes[k];
-            fill(a, 0.4), fill(b, 0.9);
-            memcpy(cuts, a + 6, sizeof cuts); /* the end of leg 0 lies between its start and this point: along it, as the source has it */
-            least = used(&nothing);
-            printf(" %zu", used(&calls[i]) - least);
-            if (refusal != 0) printf(" (refusal %u)", (unsigned)refusal);
-            printf(" |");
-        }
-        printf("\n");
+    size_t k, bytes = 0;
+    for (k = 0; k < 2; k++) {
+        size_t least, all;
+        n = sizes[k];
+        fill(a, 0.4), fill(b, 0.9);
+        memcpy(cuts, a + 6, sizeof cuts); /* the end of leg 0 lies between its start and this point: along it, as the source has it */
+        least = used(&nothing);
+        all = used(call);
+        if (refusal != 0) printf("%s is refused by %u\n", call->name, (unsigned)refusal);
+        if (all - least > bytes) bytes = all - least;
     }
+    return bytes;
+}
+
+int main(void)
+{
+    size_t i;
+    printf("| call | stack, bytes |\n|---|---|\n");
+    for (i = 0; i < sizeof calls / sizeof calls[0]; i++) printf("| %s | %zu |\n", calls[i].name, most(&calls[i]));
     return 0;
 }

@@ -16,7 +16,7 @@ use Rattle.arcstring.proofs.Checks.{stored-whole}
 use Rattle.arcstring.proofs.Flat.{count-points}
 use Rattle.arcstring_crossing.specs.Crossing.{Leg, pairOf, legCheck}
 use Rattle.arcstring_crossing.specs.Listing.{legs, pairsBetween, pairsWithin, visited, legPairs, selfPairs, keptMarks}
-use Rattle.arcstring_crossing.specs.Tally.{legsFrom, legCount, legFloats}
+use Rattle.arcstring_crossing.specs.Tally.{legAt, legsFrom, legCount, legFloats}
 use Rattle.arcstring_crossing.proofs.Legs.{legs-whole}
 use Rattle.arcstring_crossing.proofs.Rows.{kept-between}
 use Rattle.arcstring_crossing.proofs.Tallies.{kept-bound}
@@ -91,6 +91,10 @@ unfolding visited legFloats legs pairsBetween legPairs
 leg-visits l v closed = append-nil (map (pairOf l) (legs (points v) closed))
 
 module _ (l : Leg) (a : List Float) (h : a ≡ legFloats l) where
+  pub leg-as : legAt a 2 0 ≡ l
+  unfolding legAt legFloats
+  leg-as = rw h
+
   pub accepted-as : legCheck l ≡ 0 → storedCheck a ≡ 0
   accepted-as ok = ap storedCheck h ∙ leg-accepted l ok
 

@@ -6,9 +6,11 @@ ghost use lib.Ieee.{lt};
 ghost use Rattle.sphericalpoint.specs.Vector.{xyzDot};
 ghost use Rattle.arcstring.specs.Answer.{pick};
 ghost use Rattle.arcstring.specs.Check.{checkNumber};
-ghost use Rattle.arcstring_crossing.specs.Plane.{planeLeg, planeOf, showsApart};
+ghost use Rattle.arcstring_crossing.specs.Plane.{planeOf, showsApart};
+ghost use Rattle.arcstring_crossing.specs.Tally.{legFloats};
 ghost use Rattle.arcstring_crossing.specs.Crossing.{leg, legOf, grazes, isAbove, isBelow, signNegative, signPositive, someSide, everySide, atEnd};
 ghost use Rattle.arcstring_crossing.specs.Crossing.{keptOrDropped, grazingOutcome, endOrClean, classAt, pairOf, legCheck, arcsCrossing, crossedAnswer};
+use crate::planes;
 use arcstring::check;
 use arcstring::check::Checked;
 use arcstring::check::Refusal;
@@ -291,21 +293,29 @@ pub(crate) fn class_at(
     Pair::Apart
 }
 
-// The class of a pair of legs, by what was worked out for each.
-pub(crate) fn planes_pair(a: Plane, b: Plane) -> Pair
-    requires { ⌜ (a ≡ planeOf (planeLeg a)) × (b ≡ planeOf (planeLeg b)) ⌝ }
-    ensures { λ r. ⌜ r ≡ pairOf (planeLeg a) (planeLeg b) ⌝ }
+// A leg as a string of two vertices.
+pub(crate) fn leg_string(arc: [[f64; 3]; 2]) -> [f64; 6]
+    ensures { λ r. ⌜ r ≡ legFloats (legOf arc) ⌝ }
 {
-    let t = sphericalpoint::xyz_cross(a.normal, b.normal);
-    let s = side_values(a.before, a.after, b.before, b.after, t);
-    class_at(t, a.from, a.to, b.from, b.to, s)
+    [
+        arc[0][0],
+        arc[0][1],
+        arc[0][2],
+        arc[1][0],
+        arc[1][1],
+        arc[1][2],
+    ]
 }
 
-// The class of a pair of legs, each an array of two arrays of three.
+// The class of a pair of legs, each an array of two arrays of three. By the test that the walk makes: so the compiler has
+// one place for it, and makes one piece of it.
 fn pair_of(arc_a: [[f64; 3]; 2], arc_b: [[f64; 3]; 2]) -> Pair
     ensures { λ r. ⌜ r ≡ pairOf (legOf «arc_a») (legOf «arc_b») ⌝ }
 {
-    planes_pair(plane_of(arc_a), plane_of(arc_b))
+    let b = leg_string(arc_b);
+    let mut planes = [0.0; 9];
+    planes::keep_planes(&b, 2, 1, &mut planes, 1);
+    planes::pair_at(plane_of(arc_a), &planes, 1, &b, 2, 0)
 }
 
 // A leg by itself: 4 for its start or its end.

@@ -17,7 +17,7 @@ ghost use Rattle.arcstring_crossing.specs.Listing.{keptMarks, markPoint,
 ghost use Rattle.arcstring_crossing.specs.Listing.{legCrossings, selfCrossings, crossesSelf, sameSide, countedAnswer, listedAnswer, listedResult};
 ghost use Rattle.arcstring_crossing.specs.Listing.{listedFloats, listedBytes};
 ghost use Rattle.arcstring_crossing.specs.Listing as Listing;
-ghost use Rattle.arcstring_crossing.specs.Tally.{noTally, tallyOn, legFloats};
+ghost use Rattle.arcstring_crossing.specs.Tally.{noTally, tallyOn};
 use crate::crossing;
 use crate::tally;
 use crate::tally::Tally;
@@ -211,26 +211,12 @@ pub fn crossings(
     list_two(a, a_closed, b, b_closed, points, marks)
 }
 
-// A leg as a string of two vertices.
-fn leg_string(arc: [[f64; 3]; 2]) -> [f64; 6]
-    ensures { λ r. ⌜ r ≡ legFloats (legOf arc) ⌝ }
-{
-    [
-        arc[0][0],
-        arc[0][1],
-        arc[0][2],
-        arc[1][0],
-        arc[1][1],
-        arc[1][2],
-    ]
-}
-
 // One leg against an accepted string, counted.
 fn tally_leg(arc: [[f64; 3]; 2], v: &[f64], closed: bool) -> Tally
     requires { ⌜ (legCheck (legOf arc) ≡ 0) × (storedCheck (now v) ≡ 0) ⌝ }
     ensures { λ r. ⌜ r ≡ tallyOn noTally (legPairs (legOf arc) (now (v .entry)) closed) ⌝ }
 {
-    let a = leg_string(arc);
+    let a = crossing::leg_string(arc);
     tally_two(&a, false, v, closed)
 }
 
@@ -251,7 +237,7 @@ pub fn arc_crossings_with_arcstring(
     if let Checked::Refused(e) = checked {
         return Listed::Refused(e);
     }
-    let a = leg_string(arc);
+    let a = crossing::leg_string(arc);
     list_two(&a, false, v, closed, points, marks)
 }
 

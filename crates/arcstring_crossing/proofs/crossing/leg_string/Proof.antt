@@ -1,8 +1,8 @@
 -- A leg as six floats. Assumes nothing.
 use Rattle.arcstring_crossing.specs.Tally.{legFloats}
 use borrow.Author.Needs.{needs}
-use Rattle.arcstring_crossing.proofs.listing.leg_string.Statement.{statement}
-use Rattle.arcstring_crossing.proofs.listing.leg_string.Tie as tie
+use Rattle.arcstring_crossing.proofs.crossing.leg_string.Statement.{statement}
+use Rattle.arcstring_crossing.proofs.crossing.leg_string.Tie as tie
 
 index-1-t7 : tie.Need-index-1-t7
 index-1-t7 c = search needs
