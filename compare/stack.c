@@ -49,11 +49,11 @@ static void within(void) { refusal = arcstring_within(a, 3 * n, b, 3 * n, b, 3 *
 static void turns(void) { refusal = arcstring_turn_orientations(a, 3 * n, 1, out, 3 * MOST, &length); }
 static void midpoints(void) { refusal = arcstring_midpoints(a, 3 * n, 1, out, 3 * MOST, &length); }
 static void simplify(void) { refusal = arcstring_simplify(a, 3 * n, 0, out, 3 * MOST, &length); }
-static void insert(void) { refusal = arcstring_insert_vertices(a, 3 * n / 2, 0, cuts, 3, out, 3 * MOST, &length); }
+static void insert(void) { refusal = arcstring_insert_vertices(a, 3 * (n / 2), 0, cuts, 3, out, 3 * MOST, &length); }
 static void split_leg(void) { refusal = arcstring_split_leg(a, cuts, 3, out, 3 * MOST, &length); }
 static void split(void)
 {
-    refusal = arcstring_split(a, 3 * n / 2, 0, cuts, 3, out, 3 * MOST, lengths, MOST, flags, MOST, &length);
+    refusal = arcstring_split(a, 3 * (n / 4), 0, cuts, 3, out, 3 * MOST, lengths, MOST, flags, MOST, &length);
 }
 static void equals(void) { refusal = arcstring_equals(a, 3 * n, a, 3 * n, 0, b, 3 * n, b, 3 * n, 0, &flag); }
 static void overlaps(void) { refusal = arcstring_overlaps(a, 3 * n, a, 3 * n, 0, b, 3 * n, b, 3 * n, 0, &flag); }

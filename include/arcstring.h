@@ -17,6 +17,18 @@
  * or to split at; then the 3 of a result, 5 and 6; 7 comes last.
  * Past an answer a buffer keeps what it held. What is lent for results, buffers and single places alike, may not overlap
  * anything else that is handed in.
+ *
+ * Nothing is allocated: a call works on the stack. How much it takes there does not hang on its input; measured on x86-64, in
+ * bytes, rounded up (compare/run stack):
+ *
+ *     148,500  arcstring_overlaps
+ *     143,000  arcstring_split
+ *      99,500  arcstring_equals
+ *      92,000  arcstring_crossings, arcstring_crossings_with_self, arcstring_leg_crossings, arcstring_count, arcstring_crosses,
+ *              arcstring_crosses_self, arcstring_same_side
+ *      50,000  arcstring_simplify
+ *      25,000  arcstring_insert_vertices, arcstring_split_leg
+ *       1,000  every other call
  */
 #ifndef ARCSTRING_H
 #define ARCSTRING_H
