@@ -43,7 +43,7 @@ module _ (flags : List ℕ) (to k n : ℕ) (flagged : List ℕ) (more : k < to) 
       → take r (set flagged n k) ++ flaggedFrom flags (k + 1) (to - (k + 1)) ≡ all
   gathered-on all r hr h =
       let s = flagged-step flags k (to - k) (to - (k + 1)) (omega arith) in
-      go (eqb (getD flags k 0) 0) (ap (λ (x : ℕ). x) hr) (ap (λ (l : List ℕ). take n flagged ++ l) (sym s) ∙ h)
+      go (eqb (getD flags k 0) 0) hr (ap (λ (l : List ℕ). take n flagged ++ l) (sym s) ∙ h)
     where
       go : (b : Bool) → r ≡ pick b n (n + 1) → take n flagged ++ (pick b [] (k ∷ []) ++ flaggedFrom flags (k + 1) (to - (k + 1))) ≡ all
           → take r (set flagged n k) ++ flaggedFrom flags (k + 1) (to - (k + 1)) ≡ all
