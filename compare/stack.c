@@ -20,10 +20,15 @@ static uint64_t counts[4];
 static uint32_t refusal;
 
 static void none(void) { refusal = 0; }
+static void xyz_eq(void) { refusal = arcstring_xyz_eq(a[0], a[1], a[2], b[0], b[1], b[2], &flag); }
+static void coplanar(void) { refusal = arcstring_xyzs_coplanar(a[0], a[1], a[2], a[6], a[7], a[8], a[3], a[4], a[5], &flag); }
+static void point(void) { refusal = arcstring_point(a[0] / 2, a[1], a[2], out); }
 static void pair(void) { refusal = arcstring_pair(a, b, &flag, &other, out); }
 static void build(void) { refusal = arcstring_build(a, 3 * n, out, 3 * MOST, &length, &flag); }
+static void build_flagged(void) { refusal = arcstring_build_flagged(a, 3 * n, 1, out, 3 * MOST, &length); }
 static void walk_back(void) { refusal = arcstring_walk_back(a, 3 * n, out, 3 * MOST, &length); }
 static void restart(void) { refusal = arcstring_restart(a, 3 * n, 1, 2, out, 3 * MOST, &length); }
+static void run(void) { arcstring_run(a, 3 * n, 1, n - 1, &kept, &length), refusal = 0; }
 static void count(void) { refusal = arcstring_count(a, 3 * n, 1, b, 3 * n, 1, counts); }
 static void listing(void)
 {
@@ -46,6 +51,7 @@ static void along(void) { refusal = arcstring_along(cuts[0], cuts[1], cuts[2], b
 static void eq(void) { refusal = arcstring_eq(a, 3 * n, a, 3 * n, 1, a, 3 * n, a, 3 * n, 1, &flag); }
 static void crosses(void) { refusal = arcstring_crosses(a, 3 * n, a, 3 * n, 1, b, 3 * n, b, 3 * n, 1, &flag); }
 static void within(void) { refusal = arcstring_within(a, 3 * n, b, 3 * n, b, 3 * n, 1, &flag); }
+static void contains(void) { refusal = arcstring_contains(a, 3 * n, a, 3 * n, 1, b, 3 * n, &flag); }
 static void turns(void) { refusal = arcstring_turn_orientations(a, 3 * n, 1, out, 3 * MOST, &length); }
 static void midpoints(void) { refusal = arcstring_midpoints(a, 3 * n, 1, out, 3 * MOST, &length); }
 static void simplify(void) { refusal = arcstring_simplify(a, 3 * n, 0, out, 3 * MOST, &length); }
@@ -59,10 +65,12 @@ static void equals(void) { refusal = arcstring_equals(a, 3 * n, a, 3 * n, 0, b, 
 static void overlaps(void) { refusal = arcstring_overlaps(a, 3 * n, a, 3 * n, 0, b, 3 * n, b, 3 * n, 0, &flag); }
 
 static const struct call { const char *name; void (*run)(void); } calls[] = {
-    {"arcstring_pair", pair}, {"arcstring_build", build}, {"arcstring_walk_back", walk_back}, {"arcstring_restart", restart},
+    {"arcstring_xyz_eq", xyz_eq}, {"arcstring_xyzs_coplanar", coplanar}, {"arcstring_point", point}, {"arcstring_pair", pair},
+    {"arcstring_build", build}, {"arcstring_build_flagged", build_flagged}, {"arcstring_walk_back", walk_back},
+    {"arcstring_restart", restart}, {"arcstring_run", run},
     {"arcstring_count", count}, {"arcstring_crossings", listing}, {"arcstring_leg_crossings", leg_listing},
     {"arcstring_crossings_with_self", self_listing}, {"arcstring_crosses_self", crosses_self}, {"arcstring_same_side", same_side},
-    {"arcstring_crosses", crosses}, {"arcstring_along", along}, {"arcstring_eq", eq}, {"arcstring_within", within},
+    {"arcstring_crosses", crosses}, {"arcstring_along", along}, {"arcstring_eq", eq}, {"arcstring_within", within}, {"arcstring_contains", contains},
     {"arcstring_turn_orientations", turns}, {"arcstring_midpoints", midpoints}, {"arcstring_simplify", simplify},
     {"arcstring_insert_vertices", insert}, {"arcstring_split_leg", split_leg}, {"arcstring_split", split},
     {"arcstring_equals", equals}, {"arcstring_overlaps", overlaps},

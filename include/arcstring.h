@@ -18,8 +18,8 @@
  * Past an answer a buffer keeps what it held. What is lent for results, buffers and single places alike, may not overlap
  * anything else that is handed in.
  *
- * Nothing is allocated: a call works on the stack. How much it takes there does not hang on its input; measured on x86-64, in
- * bytes, rounded up (compare/run stack):
+ * Nothing is allocated: a call works on the stack. How much it takes there at most, in bytes, rounded up, as measured on x86-64
+ * with strings of 64 and of 1,024 vertices (compare/run stack):
  *
  *     148,500  arcstring_overlaps
  *     143,000  arcstring_split
