@@ -1,9 +1,11 @@
-//! Compares the proved libraries with the published Rust and with the processor, bit for bit (any NaN with any NaN).
+//! Compares the proved libraries with the published Rust and with the processor, bit for bit (any NaN with any NaN), and the vertices that
+//! they build with unit length.
 //! A line for each kind of case says how often it came; a difference prints its request and ends the run with 1.
 mod bench;
 mod calls;
 mod classes;
 mod edits;
+mod exact;
 mod expected;
 mod expected_edit;
 mod found;
@@ -21,6 +23,8 @@ mod strings;
 mod table;
 mod tally;
 mod timing;
+mod unit;
+mod unit_points;
 mod vectors;
 
 use request::Request;
@@ -31,7 +35,7 @@ use tally::Tally;
 type Work = fn(&mut Tally, u64);
 
 /// What can be compared, with the usual number of comparisons; the found and the small requests are as many as there are.
-const COMPARISONS: [(&str, u64, Work); 7] = [
+const COMPARISONS: [(&str, u64, Work); 8] = [
     ("found", 1, found::run),
     ("roots", 12_000_000, roots::run),
     ("vectors", 3_000_000, vectors::run),
@@ -39,6 +43,7 @@ const COMPARISONS: [(&str, u64, Work); 7] = [
     ("strings", 6_000_000, strings::run),
     ("narrow", 5_000_000, narrow::run),
     ("edits", 1_000_000, edits::run),
+    ("unit", 40_000_000, unit::run),
 ];
 
 fn run(name: &'static str, n: u64, work: Work) -> Tally {

@@ -1,11 +1,11 @@
--- Laws of building: the ends of a string, and what is written, from the checks. Assumes nothing.
+-- Laws of building: the ends of a string, its vertices and how many there are, and what is written, from the checks. Assumes nothing.
 use mathlib.Core.Path.{_≡_, refl, sym, ap, _∙_}
 use mathlib.Core.Bool.{Bool, true, false}
 use mathlib.Core.List.{List, [], _∷_, _++_, map}
-use Prim.Native.Nat.{ℕ, zero, suc, _-_, _*_, _≤_, _<_}
+use Prim.Native.Nat.{ℕ, zero, suc, _-_, _*_, _/_, _≤_, _<_}
 use native.Mathlib.Omega.{arith}
 use lib.ListN.{length, getD, take, drop, length-map}
-use lib.Seq.{length-take-le, take-all}
+use lib.Seq.{length-take-le, take-all, getD-take}
 use lib.Ieee.{Float}
 use Rattle.sphericalpoint.specs.declared.SphericalPoint.{SphericalPoint}
 use Rattle.sphericalpoint.specs.Vector.{xyzEq}
@@ -21,6 +21,7 @@ use Rattle.arcstring.specs.Splice.{splice}
 use Rattle.arcstring.specs.Build.{normalizedAll, endsMeet, builtVertices, builtString, buildInto, build, buildFlagged, flagged, builtResult, builtFloats}
 use Rattle.arcstring.proofs.Flat.{point-at, length-points, points-flat, take-points, length-flat}
 use Rattle.arcstring.proofs.Answers.{refuse, pass, answer-refused, answer-accepted}
+use Rattle.arcstring.proofs.Checks.{build-whole, build-two}
 use Rattle.arcstring.proofs.Rooms.{no-room, room-enough}
 use Rattle.arcstring.proofs.Splices.{splice-front}
 use Rattle.arcstring.proofs.Moves.{length-mapped, map-written}
@@ -99,6 +100,42 @@ module _ (v : List Float) (n : ℕ) (whole : length v ≡ 3 * n) where
 
   pub open-length : endsMeet once ≡ false → length (builtString (points v) .vertices) ≡ n
   open-length apart = ap length (sym (open-vertices apart)) ∙ length-first n (omega arith)
+
+  -- vertex k, from point k
+  abbrev picked-at : Bool → ℕ → SphericalPoint
+  picked-at b k = getD (pick b (normalizedAll (take (length once - 1) once)) once) k noPoint
+
+  pub closed-vertex : (k : ℕ) → endsMeet once ≡ true → k < n - 1
+      → getD (builtString (points v) .vertices) k noPoint ≡ normalizedUnlessShort (normalizedUnlessShort (pointAt v k))
+  unfolding builtString builtVertices
+  closed-vertex k meet h =
+      let l : length once ≡ n = length-map (points v) normalizedUnlessShort ∙ length-points n v whole in
+      ap (λ (b : Bool). picked-at b k) meet
+      ∙ mapped-at normalizedUnlessShort (take (length once - 1) once) k noPoint (omega (arith, length-take-le (length once - 1) once (omega arith)))
+      ∙ ap normalizedUnlessShort (getD-take (length once - 1) once k noPoint (omega arith) ∙ normalized-at v n k whole (omega arith))
+
+  pub open-vertex : (k : ℕ) → endsMeet once ≡ false → k < n
+      → getD (builtString (points v) .vertices) k noPoint ≡ normalizedUnlessShort (pointAt v k)
+  unfolding builtString builtVertices
+  open-vertex k apart h = ap (λ (b : Bool). picked-at b k) apart ∙ normalized-at v n k whole h
+
+-- how many vertices a built string has
+module _ (v : List Float) (ok : buildCheck v ≡ 0) where
+  count-by : (b : Bool) → endsMeet (normalizedAll (points v)) ≡ b
+      → (1 ≤ length (builtString (points v) .vertices)) × (length (builtString (points v) .vertices) ≤ 1024)
+  count-by true e =
+      let w = build-whole v ok in
+      let two = build-two v ok in
+      let l = closed-length v (length v / 3) (w .triples) e in
+      (omega arith, omega arith)
+  count-by false e =
+      let w = build-whole v ok in
+      let two = build-two v ok in
+      let l = open-length v (length v / 3) (w .triples) e in
+      (omega arith, omega arith)
+
+  pub built-count : (1 ≤ length (builtString (points v) .vertices)) × (length (builtString (points v) .vertices) ≤ 1024)
+  built-count = count-by (endsMeet (normalizedAll (points v))) refl
 
 pub closed-flag : (ps : List SphericalPoint) → endsMeet (normalizedAll ps) ≡ builtString ps .closed
 unfolding builtString

@@ -1,22 +1,44 @@
 -- The checks at each outcome of their tests, and what an accepted list is. Assumes nothing.
 use mathlib.Core.Path.{_≡_, refl, sym, ap, _∙_}
 use mathlib.Core.Bool.{Bool, true, false, not, _&&_}
-use mathlib.Core.List.{List, [], _∷_}
-use Prim.Native.Nat.{ℕ, zero, suc, _+_, _*_, _/_, _%_, _≤_, _<_}
+use mathlib.Core.List.{List}
+use Prim.Native.Nat.{ℕ, suc, _+_, _*_, _/_, _%_, _≤_, _<_}
 use native.Mathlib.Omega.{arith}
 use native.Mathlib.Numerals.{add-one}
-use lib.Dec.{ltb, eqb}
+use lib.Dec.{T, ltb, eqb}
 use lib.ListN.{length, getD, drop, drop-of-length-le}
 use lib.Seq.{drop-cons}
-use lib.Ieee.{Float, nan}
+use lib.IntN.{pos}
+use lib.Ieee.{Float, nan, fin, le}
+use lib.Ieee.Fits.{and-l, and-r}
+use Rattle.ieee754.specs.Bound.{AtMost}
+use Rattle.ieee754.proofs.Bounds.{between-at-most, at-most-between}
 use Rattle.sphericalpoint.specs.declared.SphericalPoint.{SphericalPoint}
-use borrow.Author.Tests.{eqb-true, ltb-false, ltb-true, eq-eqb, ne-eqb, lt-ltb, le-ltb, eqb-false}
+use borrow.Author.Tests.{eqb-true, ltb-false, eq-eqb, ne-eqb, lt-ltb, le-ltb, eqb-false}
 use Rattle.arcstring.specs.declared.check.Refusal.{Refusal}
 use Rattle.arcstring.specs.declared.check.Checked.{Checked}
 use Rattle.arcstring.specs.declared.check.Checked.the-variants.{Refused}
 use Rattle.arcstring.specs.Answer.{numberIf, firstOf, refusalNumber}
 use Rattle.arcstring.specs.Check.{checkNumber, inRange, allInRange, listCheck, storedCheck, buildCheck, pointCheck}
 use Rattle.arcstring.proofs.Answers.{first-passes, second-passes, first-refused}
+
+-- ---- a coordinate: in range is at most 1 in size
+
+pub range-bound : (x : Float) → T (inRange x) → AtMost 0 x
+unfolding inRange
+range-bound x h =
+    let p = le (fin true 1 (pos 0)) x in
+    let q = le x (fin false 1 (pos 0)) in
+    between-at-most x (and-l p q h) (and-r p q h)
+
+pub true-of : (b : Bool) → T b → b ≡ true
+true-of true h = refl
+true-of false h = absurd h
+
+pub bound-range : (x : Float) → AtMost 0 x → inRange x ≡ true
+unfolding inRange
+bound-range x h =
+    let b = at-most-between x h in rw (true-of (le (fin true 1 (pos 0)) x) (b .0), true-of (le x (fin false 1 (pos 0))) (b .1))
 
 -- ---- the walk over a list's coordinates
 

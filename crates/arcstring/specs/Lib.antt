@@ -5,5 +5,6 @@ pub mod Splice
 pub mod Check
 pub mod Point
 pub mod Build
+pub mod BuildLaws
 pub mod Walk
 pub mod Work

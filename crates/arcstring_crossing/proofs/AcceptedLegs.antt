@@ -11,7 +11,7 @@ use Rattle.sphericalpoint.specs.declared.SphericalPoint.{SphericalPoint}
 use Rattle.arcstring.specs.Points.{points}
 use Rattle.arcstring.specs.Check.{inRange, allInRange, storedCheck, pointCheck}
 use Rattle.arcstring.proofs.Answers.{first-passes, second-passes}
-use Rattle.arcstring.proofs.Checks.{if-none-not, stored-whole}
+use Rattle.arcstring.proofs.Checks.{true-of, if-none-not, stored-whole}
 use Rattle.arcstring_crossing.specs.Crossing.{Leg, legCheck}
 use Rattle.arcstring_crossing.specs.Listing.{chain, legs}
 use Rattle.arcstring_crossing.proofs.Finite.{PointInRange, LegInRange}
@@ -37,10 +37,6 @@ accepted-leg-in-range l h =
       from = point-passed (l .from) (first-passes (pointCheck (l .from)) (pointCheck (l .to)) h);
       to = point-passed (l .to) (second-passes (pointCheck (l .from)) (pointCheck (l .to)) h);
     }
-
-true-of : (b : Bool) → T b → b ≡ true
-true-of true h = refl
-true-of false h = absurd h
 
 point-passes : (p : SphericalPoint) → PointInRange p → pointCheck p ≡ 0
 unfolding pointCheck

@@ -8,17 +8,18 @@ use native.Mathlib.Nat.{mul-pos}
 use native.Mathlib.Omega.{arith}
 use lib.Dec.{T}
 use lib.IntN.{ℤ, pos}
-use lib.Ieee.{Float, nan, inf, fin, binary64, up, down, add, sub, mul, lt, eq, le}
-use lib.Ieee.Fits.{and-l, and-r, up-pos}
+use lib.Ieee.{Float, nan, inf, fin, binary64, up, down, add, sub, mul, lt, eq}
+use lib.Ieee.Fits.{up-pos}
 use borrow.Author.Tests.{lt-ltb, le-ltb, ne-eqb}
 use Rattle.ieee754.specs.Bound.{AtMost}
 use Rattle.ieee754.specs.Value.{vzero, value}
 use Rattle.ieee754.proofs.ByValue.{zero-times}
 use Rattle.ieee754.proofs.Comparisons.{lt-value, eq-value}
-use Rattle.ieee754.proofs.Bounds.{between-at-most, neg-at-most, mul-at-most, add-at-most, sub-at-most}
+use Rattle.ieee754.proofs.Bounds.{neg-at-most, mul-at-most, add-at-most, sub-at-most}
 use Rattle.sphericalpoint.specs.declared.SphericalPoint.{SphericalPoint}
 use Rattle.sphericalpoint.specs.Vector.{xyzMul, xyzNeg, xyzSum, xyzDot, xyzCross}
 use Rattle.arcstring.specs.Check.{inRange}
+use Rattle.arcstring.proofs.Checks.{range-bound}
 use Rattle.arcstring_crossing.specs.Crossing.{Leg, normal, meeting, sideFrom, sideTo, sideValues, zeroFloat, grazes, isAbove, isBelow}
 
 -- ---- bounds on the size of a vector's coordinates
@@ -73,12 +74,8 @@ pub record LegInRange (l : Leg) : Type 0 where
   pub from : PointInRange (l .from)
   pub to : PointInRange (l .to)
 
-coordinate-bound : (x : Float) → T (inRange x) → AtMost 0 x
-unfolding inRange
-coordinate-bound x h = between-at-most x (and-l (le (fin true 1 (pos 0)) x) (le x (fin false 1 (pos 0))) h) (and-r (le (fin true 1 (pos 0)) x) (le x (fin false 1 (pos 0))) h)
-
 point-bound : (p : SphericalPoint) → PointInRange p → EachAtMost 0 p
-point-bound p h = record { x = coordinate-bound (p .x) (h .x); y = coordinate-bound (p .y) (h .y); z = coordinate-bound (p .z) (h .z) }
+point-bound p h = record { x = range-bound (p .x) (h .x); y = range-bound (p .y) (h .y); z = range-bound (p .z) (h .z) }
 
 module _ (l : Leg) (h : LegInRange l) where
   normal-bound : EachAtMost 1 (normal l)

@@ -6,9 +6,9 @@
 //     listing   the crossings and counts of two strings, of a leg and a string, of a string with itself
 //
 // walk holds the one walk over pairs, tally what it counts up and writes, planes what it keeps of the second string's legs.
-// A function with a `requires` is for the crates of the string layer and textform, not for users.
+// A function with a `requires` is for the crates of the string layer, not for users.
 pub mod crossing;
 pub mod listing;
 mod planes;
 pub mod tally;
-pub mod walk;
+mod walk;

@@ -39,7 +39,7 @@ pub(crate) fn none() -> Tally
     }
 }
 
-pub fn counts_of(tally: Tally) -> Counts
+pub(crate) fn counts_of(tally: Tally) -> Counts
     ensures { λ r. ⌜ r ≡ tallyCounts tally ⌝ }
 {
     Counts {

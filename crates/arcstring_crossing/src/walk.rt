@@ -270,7 +270,14 @@ pub(crate) fn visit(
 }
 
 // The first `la` legs of a string against the first `lb` legs of another.
-pub fn count_between(a: &[f64], na: usize, la: usize, b: &[f64], nb: usize, lb: usize) -> Tally
+pub(crate) fn count_between(
+    a: &[f64],
+    na: usize,
+    la: usize,
+    b: &[f64],
+    nb: usize,
+    lb: usize,
+) -> Tally
     requires { ⌜ (length (now a) ≡ 3 * na) × (la ≤ na) × (na ≤ 1024) ⌝ }
     requires { ⌜ (length (now b) ≡ 3 * nb) × (lb ≤ nb) × (nb ≤ 1024) ⌝ }
     ensures { λ r. ⌜ r ≡ tallyOn noTally (pairsBetween (legsFrom (now (a .entry)) 0 la) (legsFrom (now (b .entry)) 0 lb)) ⌝ }

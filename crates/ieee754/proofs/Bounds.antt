@@ -13,6 +13,7 @@ use lib.Ieee.Fits.{two, two-le-pos, down-pos, round-is}
 use lib.Ieee.Exact.{HasValue, round-exact}
 use lib.Ieee.Order.{round-mono, le-of-values}
 use lib.Ieee.Scale.{finite}
+use borrow.Author.Tests.{lt-ltb, ltb-false, eq-eqb}
 use Rattle.ieee754.specs.Size.{abs}
 use Rattle.ieee754.specs.Bound.{AtMost}
 use Rattle.ieee754.proofs.Rounding.{round-neg}
@@ -90,6 +91,25 @@ between-at-most (fin true m e) g h =
     let a = 1 * up (pos 0) * down e in
     let b = m * up e * down (pos 0) in
     le-trans (le-of-eq (sym (mul-one (m * up e)))) (lt-or-eq b a (ltb b a) (eqb a b) (ltb→lt b a) (λ (t : T (eqb a b)). sym (eqb→eq a b t)) g)
+
+above-zero : (n : ℕ) (q : Bool) → 0 < n → T (ltb 0 n || q)
+above-zero n q h = rw (lt-ltb 0 n h) tt
+
+no-more : (a b : ℕ) (p : Bool) → ltb b a ≡ p → b ≤ a → T (p || (eqb a b && true))
+no-more a b true e h = tt
+no-more a b false e h = rw (eq-eqb a b (omega (arith, ltb-false b a e))) tt
+
+-- and back
+pub at-most-between : (x : Float) → AtMost 0 x → T (le (fin true 1 (pos 0)) x) × T (le x (fin false 1 (pos 0)))
+unfolding le abs
+at-most-between nan h = absurd h
+at-most-between (inf s) h = absurd h
+at-most-between (fin false m e) h =
+    (above-zero (1 * up (pos 0) * down e + m * up e * down (pos 0)) _ (omega (arith, down-pos e)), at-most-le 0 (fin false m e) h)
+at-most-between (fin true m e) h =
+    let a = 1 * up (pos 0) * down e in
+    let b = m * up e * down (pos 0) in
+    (no-more a b (ltb b a) refl (le-trans (le-of-eq (mul-one (m * up e))) h), above-zero (b + a) _ (omega (arith, down-pos e)))
 
 -- ---- rounding
 -- finite or infinite, and of the sign s

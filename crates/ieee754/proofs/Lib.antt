@@ -1,5 +1,12 @@
+-- The laws of the kit's floats, all for others to cite: of values and signs (`Rounding`, `Arithmetic`, `ByValue`, `Comparisons`), of sizes (`Bounds`), and of
+-- how far rounded operations lie from the exact ones (`Units`, `Spacing`, `Rounded`, `Operations`, in the words of `Closeness`).
 pub mod Rounding
 pub mod Arithmetic
 pub mod ByValue
 pub mod Comparisons
 pub mod Bounds
+pub mod Units
+pub mod Spacing
+pub mod Closeness
+pub mod Rounded
+pub mod Operations

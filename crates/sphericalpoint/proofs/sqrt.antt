@@ -1,6 +1,7 @@
--- The laws of the square root. `WholeRoots`, `NearestLaw` and `KnownRoots` are for others to cite; the rest serves the proofs of `src/sqrt.rt`.
+-- The laws of the square root. `WholeRoots`, `NearestLaw`, `RootClose` and `KnownRoots` are for others to cite; the rest serves the proofs of `src/sqrt.rt`.
 pub mod WholeRoots
 pub mod NearestLaw
+pub mod RootClose
 pub mod KnownRoots
 mod Squares
 mod Zimmermann

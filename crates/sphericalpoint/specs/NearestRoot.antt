@@ -1,25 +1,28 @@
 -- What it is to be the `f64` nearest to √x, for a finite x above zero, with no algorithm named. Definitions only.
-use Prim.Native.Nat.{ℕ, _+_, _*_, _/_, _^_, _<_}
-use mathlib.Core.Bool.{Bool, true, false, not}
+use Prim.Native.Nat.{ℕ, _+_, _*_, _^_, _≤_, _<_}
 use lib.Dec.{T}
-use lib.Ieee.{Float, nan, inf, fin, binary64, up, down, fits}
-
--- finite, with the sign clear
-abbrev pub notNegative : Float → Bool
-notNegative nan = false
-notNegative (inf s) = false
-notNegative (fin s m e) = not s
+use lib.Ieee.{Float, binary64, fits}
+use lib.Ieee.Positive.{positive}
+use Rattle.ieee754.specs.Units.{notNegative, unitsIn}
+use Rattle.ieee754.specs.Closeness.{Near}
 
 -- the size of a finite `f64` in units of 2 ^ -1074, the smallest of them: a whole number
 abbrev pub inUnits : Float → ℕ
-inUnits nan = 0
-inUnits (inf s) = 0
-inUnits (fin s m e) = m * up e * 2 ^ 1074 / down e
+inUnits x = unitsIn binary64 x
 
--- r is an `f64` from 0 up. For every other such float y, √x lies on r's side of the point halfway between r and y, and never on that point, so that no tie is left to decide.
--- √x is √(inUnits x * 2 ^ 1074) units and the point halfway is (inUnits r + inUnits y) / 2 units: their doubles are compared by their squares.
+-- r is an `f64` from 0 up. For every other such float y, √x lies on r's side of the point halfway between r and y, and never on that point, so that no tie
+-- is left to decide. √x is √(inUnits x * 2 ^ 1074) units and the point halfway is (inUnits r + inUnits y) / 2 units: their doubles are compared by their
+-- squares.
 pub record NearestRoot (x r : Float) : Type 0 where
   pub held : T (fits binary64 r)
   pub from-zero : T (notNegative r)
-  pub larger : (y : Float) → T (fits binary64 y) → T (notNegative y) → inUnits r < inUnits y → 4 * (inUnits x * 2 ^ 1074) < (inUnits r + inUnits y) * (inUnits r + inUnits y)
-  pub smaller : (y : Float) → T (fits binary64 y) → T (notNegative y) → inUnits y < inUnits r → (inUnits r + inUnits y) * (inUnits r + inUnits y) < 4 * (inUnits x * 2 ^ 1074)
+  pub larger : (y : Float) → T (fits binary64 y) → T (notNegative y) → inUnits r < inUnits y
+      → 4 * (inUnits x * 2 ^ 1074) < (inUnits r + inUnits y) * (inUnits r + inUnits y)
+  pub smaller : (y : Float) → T (fits binary64 y) → T (notNegative y) → inUnits y < inUnits r
+      → (inUnits r + inUnits y) * (inUnits r + inUnits y) < 4 * (inUnits x * 2 ^ 1074)
+
+-- What is claimed of it: its square is within 2 + 1 / g of its own 2 ^ -53rd part of x, for every g up to 2 ^ 51. The proof is `root-close` of
+-- `proofs/sqrt/RootClose.antt`.
+abbrev pub RootClose : Type 0
+RootClose = (g : ℕ) → 4 * g ≤ 2 ^ 53 → (x r : Float) → T (fits binary64 x) → T (positive x) → NearestRoot x r
+    → Near (g * 2 ^ 53) (2 * g + 1) (inUnits x * 2 ^ 1074) (inUnits r * inUnits r)

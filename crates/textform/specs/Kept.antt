@@ -1,8 +1,8 @@
 -- The reading as the code keeps it: at most 1,025 points of each string, and 2 in the place of a NaN, which Rattle does not make from bits. For the contracts of inner functions. Definitions only.
-use mathlib.Core.Bool.{Bool, true, false}
+use mathlib.Core.Bool.{false}
 use mathlib.Core.List.{List, [], _∷_, _++_}
 use mathlib.Core.Option.{Option, none, some}
-use Prim.Native.Nat.{ℕ, _-_, _*_, _%_, _^_, _≤_, _<_}
+use Prim.Native.Nat.{ℕ, _-_, _%_, _^_, _≤_, _<_}
 use lib.ListN.{length, take}
 use lib.Dec.{ltb}
 use lib.IntN.{pos}

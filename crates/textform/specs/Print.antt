@@ -1,5 +1,4 @@
 -- What the programs print: a heading and decimal counts, or a refusal's number. Definitions only.
-use mathlib.Core.Bool.{true, false}
 use mathlib.Core.List.{List, [], _∷_, _++_}
 use Prim.Native.Nat.{ℕ, zero, suc, _+_, _/_, _%_}
 use lib.Dec.{ltb}

@@ -2,6 +2,7 @@
 ghost use mathlib.Core.Path.{_≡_};
 ghost use Prim.Native.Nat.{_≤_};
 ghost use lib.ListN.{length, take};
+ghost use Rattle.arcstring_crossing.specs.Listing.{countedAnswer};
 ghost use Rattle.textform.specs.Kept.{heldState, Sound};
 ghost use Rattle.textform.specs.Print.{printed};
 ghost use Rattle.textform.specs.Count.{countBuilt, countState, outcomeAnswer, output};
@@ -11,9 +12,9 @@ use crate::read::Reader;
 use arcstring::build;
 use arcstring::build::Built;
 use arcstring::check;
+use arcstring_crossing::listing;
+use arcstring_crossing::listing::Counted;
 use arcstring_crossing::listing::Counts;
-use arcstring_crossing::tally;
-use arcstring_crossing::walk;
 
 // Counts, or the number of a refusal.
 pub(crate) enum Outcome {
@@ -21,7 +22,17 @@ pub(crate) enum Outcome {
     Refused(u32),
 }
 
-// Two lists of points built, the first first, and the pairs of their legs counted.
+// What the counting call answers, with its refusal as a number.
+fn outcome_of(counted: Counted) -> Outcome
+    ensures { λ r. ⌜ outcomeAnswer r ≡ countedAnswer counted ⌝ }
+{
+    match counted {
+        Counted::Counts(c) => Outcome::Counts(c),
+        Counted::Refused(e) => Outcome::Refused(check::number(e)),
+    }
+}
+
+// Two lists of points built, the first first, and the pairs of their legs counted. What is built is never refused there.
 fn count_built(a: &[f64], b: &[f64]) -> Outcome
     ensures { λ r. ⌜ outcomeAnswer r ≡ countBuilt (now (a .entry)) (now (b .entry)) ⌝ }
 {
@@ -37,14 +48,12 @@ fn count_built(a: &[f64], b: &[f64]) -> Outcome
                 Built::String(m, other_closed) => {
                     let n_end = 3 * n;
                     let m_end = 3 * m;
-                    Outcome::Counts(tally::counts_of(walk::count_between(
+                    outcome_of(listing::count(
                         &first[..n_end],
-                        n,
-                        tally::leg_count(n, closed),
+                        closed,
                         &second[..m_end],
-                        m,
-                        tally::leg_count(m, other_closed),
-                    )))
+                        other_closed,
+                    ))
                 }
             }
         }

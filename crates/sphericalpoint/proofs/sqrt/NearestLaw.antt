@@ -10,15 +10,17 @@ use lib.Pow.{pow-pos}
 use lib.Ieee.{Float, nan, inf, fin, binary64, units, fits}
 use lib.Ieee.Exact.{HasValue}
 use lib.Ieee.Positive.{positive}
+use Rattle.ieee754.proofs.Units.{in-format, placeOf, at-place, units-of, units-lt, value-not-negative, same-units}
+use Rattle.ieee754.proofs.Spacing.{on-grid}
 use Rattle.sphericalpoint.specs.Sqrt.{isqrt, sqrtOf}
 use Rattle.sphericalpoint.specs.NearestRoot.{inUnits, NearestRoot}
 use Rattle.sphericalpoint.specs.RootStep.{WholeRoot}
 use Rattle.sphericalpoint.proofs.sqrt.Squares.{lt-of-pow-lt}
 use Rattle.sphericalpoint.proofs.sqrt.WholeRoots.{isqrt-floor}
 use Rattle.sphericalpoint.proofs.sqrt.Halfway.{half, radicand}
-use Rattle.sphericalpoint.proofs.sqrt.Units.{in-format, placeOf, at-place, units-of, units-lt, value-not-negative, same-units, root-by-units, placed-fits, placed-value}
+use Rattle.sphericalpoint.proofs.sqrt.Units.{root-by-units, placed-fits, placed-value}
 use Rattle.sphericalpoint.proofs.sqrt.Placed.{Parts, placed, scale, scaled, near-root, root54-ge, root53-lt, root-is}
-use Rattle.sphericalpoint.proofs.sqrt.Spacing.{Sides, on-grid, sides}
+use Rattle.sphericalpoint.proofs.sqrt.Spacing.{Sides, sides}
 
 -- ---- of x = m * 2 ^ e units
 
@@ -40,8 +42,8 @@ module _ (x : Float) {m e : ℕ} (p : Parts m e) (v : HasValue x false (m * 2 ^ 
 
   own-side : Sides (inUnits x * 2 ^ 1074) (inUnits root)
   own-side =
-      let a : inUnits x * 2 ^ 1074 ≡ radicand (placed m e) (scale m e) = ap (λ (n : ℕ). n * 2 ^ 1074) (units-of x false (m * 2 ^ e) v) ∙ scaled p in
-      let w : inUnits root ≡ half root54 * 2 ^ (scale m e + 1) = units-of root false (half root54 * 2 ^ (scale m e + 1)) root-value in
+      let a : inUnits x * 2 ^ 1074 ≡ radicand (placed m e) (scale m e) = ap (λ (n : ℕ). n * 2 ^ 1074) (units-of binary64 x false (m * 2 ^ e) v) ∙ scaled p in
+      let w : inUnits root ≡ half root54 * 2 ^ (scale m e + 1) = units-of binary64 root false (half root54 * 2 ^ (scale m e + 1)) root-value in
       subst (λ (n : ℕ). Sides n (inUnits root)) (sym a)
       (subst (λ (n : ℕ). Sides (radicand (placed m e) (scale m e)) n) (sym w) (sides (placed m e) (scale m e) whole (root54-ge p whole)))
 
@@ -49,8 +51,8 @@ module _ (x : Float) {m e : ℕ} (p : Parts m e) (v : HasValue x false (m * 2 ^ 
   root-nearest = record {
     held = placed-fits (half root54) (scale m e + 1) (root53-lt p whole) (near-root p);
     from-zero = value-not-negative root (half root54 * 2 ^ (scale m e + 1)) (2 ^ 1074) root-value;
-    larger = λ y F q. own-side (inUnits y) (on-grid y F) .0;
-    smaller = λ y F q. own-side (inUnits y) (on-grid y F) .1;
+    larger = λ y F q. own-side (inUnits y) (on-grid binary64 y F) .0;
+    smaller = λ y F q. own-side (inUnits y) (on-grid binary64 y F) .1;
   }
 
   parts-nearest : NearestRoot x (sqrtOf x)
@@ -64,9 +66,11 @@ sqrt-nearest (inf s) F p = absurd p
 sqrt-nearest (fin true m e) F p = absurd p
 sqrt-nearest (fin false zero e) F p = absurd p
 sqrt-nearest (fin false (suc m) e) F p =
-    let b = in-format false m e F in
-    let v : HasValue (fin false (suc m) e) false (suc m * 2 ^ placeOf e) (2 ^ 1074) = (refl, at-place (suc m) e (b .1)) in
-    parts-nearest (fin false (suc m) e) (record { some = zero-lt-suc m; few = b .0; near = near (placeOf e) (subst (λ (n : ℕ). n < 2 ^ 2098) (units-of (fin false (suc m) e) false (suc m * 2 ^ placeOf e) v) (units-lt (fin false (suc m) e) F)) }) v
+    let b = in-format binary64 false m e F in
+    let v : HasValue (fin false (suc m) e) false (suc m * 2 ^ placeOf binary64 e) (2 ^ 1074) = (refl, at-place binary64 (suc m) e (b .1)) in
+    let is = units-of binary64 (fin false (suc m) e) false (suc m * 2 ^ placeOf binary64 e) v in
+    let u : suc m * 2 ^ placeOf binary64 e < 2 ^ 2098 = subst (λ (n : ℕ). n < 2 ^ 2098) is (units-lt binary64 (fin false (suc m) e) F) in
+    parts-nearest (fin false (suc m) e) (record { some = zero-lt-suc m; few = b .0; near = near (placeOf binary64 e) u }) v
   where
     least : (x y : ℕ) → x ≤ suc y * x
     least x y = omega arith
@@ -84,7 +88,7 @@ not-less x r t h k l = go (inUnits r) (inUnits t) (h .larger t (k .held) (k .fro
 
 pub nearest-root-unique : (x r t : Float) → NearestRoot x r → NearestRoot x t → r ≡ t
 nearest-root-unique x r t h k =
-    same-units r t (h .held) (k .held) (h .from-zero) (k .from-zero) (equal (inUnits r) (inUnits t) (not-less x r t h k) (not-less x t r k h))
+    same-units binary64 r t (h .held) (k .held) (h .from-zero) (k .from-zero) (equal (inUnits r) (inUnits t) (not-less x r t h k) (not-less x t r k h))
   where
     equal : (a b : ℕ) → (a < b → ⊥) → (b < a → ⊥) → a ≡ b
     equal a b p q = omega arith

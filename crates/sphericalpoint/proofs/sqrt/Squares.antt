@@ -1,11 +1,11 @@
--- Squares and powers of two keep the order, both ways, and the square of an odd number is odd. Assumes nothing.
+-- Squares keep the order, both ways, a power of two has the order of its exponent, and the square of an odd number is odd. Assumes nothing.
 use mathlib.Core.Path.{_≡_, ap}
 use mathlib.Core.Logic.{_⊎_, inl, inr}
 use Prim.Native.Nat.{ℕ, _+_, _*_, _/_, _%_, _^_, _≤_, _<_}
 use native.Mathlib.Nat.{le-trans, lt-of-lt-of-le, lt-irrefl, lt-of-not-le, mul-le-mul-left, mul-le-mul-right}
 use native.Mathlib.Decide.{decLe}
 use native.Mathlib.Omega.{arith}
-use lib.Pow.{pow-lt, pow-mono}
+use lib.Pow.{pow-mono}
 
 pub square-mono : {a b : ℕ} → a ≤ b → a * a ≤ b * b
 square-mono {a} {b} h = le-trans (mul-le-mul-left a h) (mul-le-mul-right b h)
@@ -18,13 +18,6 @@ lt-of-square-lt a b h = lt-of-not-le (λ (g : b ≤ a). lt-irrefl (a * a) (lt-of
 
 pub lt-of-pow-lt : (i j : ℕ) → 2 ^ i < 2 ^ j → i < j
 lt-of-pow-lt i j h = lt-of-not-le (λ (g : j ≤ i). lt-irrefl (2 ^ i) (lt-of-lt-of-le h (pow-mono g)))
-
-pub le-of-pow-le : (i j : ℕ) → 2 ^ i ≤ 2 ^ j → i ≤ j
-le-of-pow-le i j h = go (decLe i j)
-  where
-    go : Dec (i ≤ j) → i ≤ j
-    go (yes k) = k
-    go (no k) = absurd (lt-irrefl (2 ^ j) (lt-of-lt-of-le (pow-lt (lt-of-not-le k)) h))
 
 pub even-or-odd : (n : ℕ) → (n % 2 ≡ 0) ⊎ (n % 2 ≡ 1)
 even-or-odd n = go (decLe (n % 2) 0)

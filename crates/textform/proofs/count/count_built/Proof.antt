@@ -1,5 +1,5 @@
--- `count_built` builds both strings and counts the pairs of their legs. Assumes nothing.
-use mathlib.Core.Path.{sym}
+-- `count_built` builds both strings and hands on what the counting call answers for them. Assumes nothing.
+use mathlib.Core.Path.{sym, _∙_}
 use native.Mathlib.Omega.{arith}
 use borrow.Author.Needs.{needs}
 use Rattle.textform.proofs.BuiltStrings.{BuiltHere, build-refused, build-stands, first-refused, second-refused, both-counted}
@@ -37,16 +37,16 @@ enum-known-other-2 : tie.Need-enum-known-other-2
 enum-known-other-2 c = search needs
 
 -- the first string, as it stands once it is built
-first-here : (c : tie.After-built2) → BuiltHere (c .before .before .before .before .before .before .before .args .a .now) (c .built2 .given .0 .0) (c .built2 .given .0 .1 .0) (c .before .before .before .build .last .1 .0)
-first-here c =
-    let b = c .before .before .before .build in
-    build-stands _ _ _ _ (b .ensures .0) (b .ensures .1) _ _ (c .built2 .given .1)
+first-here : (c : tie.After-built2)
+    → BuiltHere (c .before .before .before .before .before .before .before .args .a .now) (c .built2 .given .0 .0) (c .built2 .given .0 .1 .0)
+    (c .before .before .before .build .last .1 .0)
+first-here c = let b = c .before .before .before .build in build-stands _ _ _ _ (b .ensures .0) (b .ensures .1) _ _ (c .built2 .given .1)
 
 -- and the second
-second-here : (c : tie.After-other2) → BuiltHere (c .before .before .before .before .before .before .before .before .before .before .before .before .before .args .b .now) (c .other2 .given .0 .0) (c .other2 .given .0 .1 .0) (c .before .before .before .build2 .last .1 .0)
-second-here c =
-    let b = c .before .before .before .build2 in
-    build-stands _ _ _ _ (b .ensures .0) (b .ensures .1) _ _ (c .other2 .given .1)
+second-here : (c : tie.After-other2)
+    → BuiltHere (c .before .before .before .before .before .before .before .before .before .before .before .before .before .args .b .now)
+    (c .other2 .given .0 .0) (c .other2 .given .0 .1 .0) (c .before .before .before .build2 .last .1 .0)
+second-here c = let b = c .before .before .before .build2 in build-stands _ _ _ _ (b .ensures .0) (b .ensures .1) _ _ (c .other2 .given .1)
 
 mul-n-end : tie.Need-mul-n-end
 mul-n-end c = let h = first-here (c .before .before .before .before .before .before .before) .few in omega arith
@@ -57,36 +57,28 @@ mul-m-end c = let h = second-here (c .before) .few in omega arith
 array-share-prefix-first : tie.Need-array-share-prefix-first
 array-share-prefix-first c = first-here (c .before .before .before .before .before .before .before) .within
 
-slice-aggregate-count-between : tie.Need-slice-aggregate-count-between
-slice-aggregate-count-between c = sym (first-here (c .before .before .before .before .before .before .before .before) .floats)
-
-leg-count-requires : tie.Need-leg-count-requires
-leg-count-requires c κs = first-here (c .before .before .before .before .before .before .before .before) .some
+slice-aggregate-count : tie.Need-slice-aggregate-count
+slice-aggregate-count c = sym (first-here (c .before .before .before .before .before .before .before .before) .floats)
 
 array-share-prefix-second : tie.Need-array-share-prefix-second
-array-share-prefix-second c = second-here (c .before .before .before) .within
+array-share-prefix-second c = second-here (c .before .before) .within
 
-slice-aggregate-count-between-2 : tie.Need-slice-aggregate-count-between-2
-slice-aggregate-count-between-2 c = sym (second-here (c .before .before .before .before) .floats)
+slice-aggregate-count-2 : tie.Need-slice-aggregate-count-2
+slice-aggregate-count-2 c = sym (second-here (c .before .before .before) .floats)
 
-leg-count-requires-2 : tie.Need-leg-count-requires-2
-leg-count-requires-2 c κs = second-here (c .before .before .before .before) .some
+count-requires : tie.Need-count-requires
+count-requires c κs = search needs
 
-count-between-requires : tie.Need-count-between-requires
-count-between-requires c κs =
-    let second = second-here (c .before .before .before .before .before) in
-    let first = first-here (c .before .before .before .before .before .before .before .before .before .before .before) in
-    ((first .floats, c .before .before .leg-count .ensures .1, first .few), (second .floats, c .leg-count2 .ensures .1, second .few))
-
-counts-of-requires : tie.Need-counts-of-requires
-counts-of-requires c κs = search needs
+outcome-of-requires : tie.Need-outcome-of-requires
+outcome-of-requires c κs = search needs
 
 returns : tie.Need-returns
 returns c =
     let built = c .before .before in
     let b = built .before .before .before in
     let a = b .before .before .before .before .args in
-    first-refused (a .a .now) (a .b .now) (built .built .given .0 .0) _ (c .number .ensures) (build-refused _ _ _ _ (b .build .ensures .0) (b .build .ensures .1) _ (built .built .given .1))
+    first-refused (a .a .now) (a .b .now) (built .built .given .0 .0) _ (c .number .ensures)
+    (build-refused _ _ _ _ (b .build .ensures .0) (b .build .ensures .1) _ (built .built .given .1))
 
 returns-2 : tie.Need-returns-2
 returns-2 c =
@@ -99,15 +91,12 @@ returns-2 c =
 
 returns-3 : tie.Need-returns-3
 returns-3 c =
-    let legs2 = c .before .before in
-    let legs1 = legs2 .before .before in
-    let other = legs1 .before .before .before in
+    let other = c .before .before .before .before .before in
     let built = other .before .before .before .before .before .before in
-    let a = built .before .before .before .before .before .before .before .args in
-    let first = first-here built in
-    let second = second-here other in
-    both-counted (a .a .now) (a .b .now) _ _ _ _ (first .accepted) (second .accepted) (first .all-legs _ (legs1 .leg-count .ensures .0)) (second .all-legs _ (legs2 .leg-count2 .ensures .0))
-    (c .before .count-between .ensures) (c .counts-of .ensures)
+    let lent = built .before .before .before .before .before in
+    let a-f64 = lent .before .shared-slice-known .given in
+    let b-f64 = lent .shared-slice-known2 .given in
+    c .outcome-of .ensures ∙ c .before .count .ensures ∙ both-counted _ _ _ _ _ _ _ _ a-f64 b-f64 (first-here built) (second-here other)
 
 pub count-built-spec : {M : Type 1} → statement M
 count-built-spec =
@@ -126,13 +115,11 @@ count-built-spec =
     mul-n-end
     mul-m-end
     array-share-prefix-first
-    slice-aggregate-count-between
-    leg-count-requires
+    slice-aggregate-count
     array-share-prefix-second
-    slice-aggregate-count-between-2
-    leg-count-requires-2
-    count-between-requires
-    counts-of-requires
+    slice-aggregate-count-2
+    count-requires
+    outcome-of-requires
     returns
     returns-2
     returns-3)

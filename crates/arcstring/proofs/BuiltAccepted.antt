@@ -1,0 +1,118 @@
+-- Vertex k of a built string is built from point k: of length 1, nearly, or a short point as it was. Either way it is in range, so what is built passes the
+-- checks of a stored string. The theorems of `specs/BuildLaws.antt`, and `built-stored` for callers. Assumes nothing.
+use mathlib.Core.Path.{_≡_, refl, sym, _∙_, subst}
+use mathlib.Core.Bool.{Bool, true, false, not}
+use mathlib.Core.List.{List, [], _∷_}
+use Prim.Native.Nat.{ℕ, zero, suc, _+_, _*_, _/_, _≤_, _<_}
+use native.Mathlib.Omega.{arith}
+use lib.Dec.{T}
+use lib.ListN.{length, getD}
+use lib.Ieee.{Float, nan, lt}
+use lib.Ieee.Fits.{and-l, and-r}
+use Rattle.ieee754.specs.Bound.{AtMost}
+use Rattle.sphericalpoint.specs.declared.SphericalPoint.{SphericalPoint}
+use Rattle.sphericalpoint.specs.Vector.{equalityTolerance, xyzLength}
+use Rattle.unit_length.specs.UnitPoint.{IsF64, InRange, UnitPoint}
+use Rattle.unit_length.specs.UnitLaws.{VertexOf}
+use Rattle.unit_length.proofs.UnitLength.{vertex-once, vertex-twice}
+use Rattle.arcstring.specs.Answer.{answered}
+use Rattle.arcstring.specs.Points.{ArcString, points, flat, pointAt, noPoint}
+use Rattle.arcstring.specs.Check.{inRange, allInRange, storedCheck, buildCheck, roomCheck}
+use Rattle.arcstring.specs.Build.{normalizedAll, endsMeet, builtString, flagged, buildInto, build, buildFlagged}
+use Rattle.arcstring.specs.BuildLaws.{AllF64, BuiltVertices, Stored, BuiltAccepted, FlaggedAccepted}
+use Rattle.arcstring.proofs.Answers.{both-passed}
+use Rattle.arcstring.proofs.Checks.{range-bound, bound-range, build-whole, by-range, stored-not-empty}
+use Rattle.arcstring.proofs.Flat.{length-flat}
+use Rattle.arcstring.proofs.Builds.{closed-vertex, closed-length, open-vertex, open-length, built-count}
+
+-- ---- a list of coordinates in range
+
+bound-at : (v : List Float) → T (allInRange v) → (i : ℕ) → i < length v → AtMost 0 (getD v i nan)
+unfolding allInRange
+bound-at [] h i l = absurd (omega arith)
+bound-at (x ∷ v) h zero l = range-bound x (and-l (inRange x) (allInRange v) h)
+bound-at (x ∷ v) h (suc i) l = bound-at v (and-r (inRange x) (allInRange v) h) i (omega arith)
+
+flat-range : (ps : List SphericalPoint) → ((k : ℕ) → k < length ps → InRange (getD ps k noPoint)) → allInRange (flat ps) ≡ true
+unfolding allInRange
+flat-range [] h = refl
+flat-range (p ∷ ps) h =
+    let r = h 0 (omega arith) in
+    let rest = flat-range ps (λ k l. h (suc k) (omega arith)) in
+    rw (bound-range (p .x) (r .x-in-range), bound-range (p .y) (r .y-in-range), bound-range (p .z) (r .z-in-range), rest)
+
+-- points in range, as many as a string may have, pass the checks of a stored list
+points-stored : (ps : List SphericalPoint) → (1 ≤ length ps) × (length ps ≤ 1024) → ((k : ℕ) → k < length ps → InRange (getD ps k noPoint))
+    → storedCheck (flat ps) ≡ 0
+points-stored ps n h =
+    let l = length-flat ps in
+    sym (by-range 0 (flat ps) (omega arith) refl (omega arith) true (flat-range ps h) ∙ stored-not-empty (flat ps) (λ e. omega arith))
+
+-- ---- the vertices
+
+-- a vertex that is built from a point in range is in range
+vertex-in-range : (a b : SphericalPoint) → InRange a → VertexOf a b → InRange b
+vertex-in-range a b r h = go (lt (xyzLength a) equalityTolerance) (h .long-is-unit) (h .short-stays)
+  where
+    go : (short : Bool) → (T (not short) → UnitPoint b) → (T short → b ≡ a) → InRange b
+    go true long stays = rw (stays tt) r
+    go false long stays = long tt .in-range
+
+module _ (v : List Float) (f64 : AllF64 v) (ok : buildCheck v ≡ 0) where
+  abbrev n : ℕ
+  n = length v / 3
+
+  abbrev vertices : List SphericalPoint
+  vertices = builtString (points v) .vertices
+
+  point-f64 : (k : ℕ) → IsF64 (pointAt v k)
+  point-f64 k = record { x-fits = f64 (3 * k); y-fits = f64 (3 * k + 1); z-fits = f64 (3 * k + 2) }
+
+  point-in-range : (k : ℕ) → k < n → InRange (pointAt v k)
+  point-in-range k h =
+      let w = build-whole v ok in
+      let at = bound-at v (subst T (sym (w .in-range)) tt) in
+      record { x-in-range = at (3 * k) (omega arith); y-in-range = at (3 * k + 1) (omega arith); z-in-range = at (3 * k + 2) (omega arith) }
+
+  -- there is a point k, and vertex k is built from it
+  vertex-by : (b : Bool) → endsMeet (normalizedAll (points v)) ≡ b → (k : ℕ) → k < length vertices
+      → (k < n) × VertexOf (pointAt v k) (getD vertices k noPoint)
+  vertex-by true meet k h =
+      let w = build-whole v ok .triples in
+      let l = closed-length v n w meet in
+      let i : k < n = omega arith in
+      (i, rw (closed-vertex v n w k meet (omega arith)) (vertex-twice (pointAt v k) (point-f64 k) (point-in-range k i)))
+  vertex-by false apart k h =
+      let w = build-whole v ok .triples in
+      let i : k < n = omega (arith, open-length v n w apart) in
+      (i, rw (open-vertex v n w k apart i) (vertex-once (pointAt v k) (point-f64 k) (point-in-range k i)))
+
+  built-vertex : (k : ℕ) → k < length vertices → (k < n) × VertexOf (pointAt v k) (getD vertices k noPoint)
+  built-vertex = vertex-by (endsMeet (normalizedAll (points v))) refl
+
+  pub built-stored : storedCheck (flat (builtString (points v) .vertices)) ≡ 0
+  built-stored =
+      points-stored vertices (built-count v ok)
+      (λ k h. let b = built-vertex k h in vertex-in-range (pointAt v k) (getD vertices k noPoint) (point-in-range k (b .0)) (b .1))
+
+-- ---- the theorems
+
+pub built-vertices : BuiltVertices
+built-vertices v f64 ok k h = built-vertex v f64 ok k h .1
+
+-- a string whose near list is its vertices, and whose vertices pass where the points do: as it is answered, so it is stored
+into-accepted : (s t : ArcString) (v : List Float) (room : ℕ) → s .near ≡ s .vertices → (buildCheck v ≡ 0 → storedCheck (flat (s .vertices)) ≡ 0)
+    → buildInto s v room ≡ answered t → Stored t
+unfolding buildInto
+into-accepted s t v room same h e =
+    let passed = both-passed (buildCheck v) (roomCheck (3 * length (s .vertices)) room) s t e in
+    let there = h (passed .0) in
+    subst Stored (passed .2) (record { vertices-stored = there; near-stored = rw same there })
+
+pub built-accepted : BuiltAccepted
+unfolding build builtString
+built-accepted v f64 room s e = into-accepted (builtString (points v)) s v room refl (built-stored v f64) e
+
+pub flagged-accepted : FlaggedAccepted
+unfolding buildFlagged flagged builtString
+flagged-accepted v f64 flag room s e = into-accepted (flagged flag (builtString (points v))) s v room refl (built-stored v f64) e
