@@ -4,7 +4,7 @@ use mathlib.Core.Path.{_≡_, refl, sym, ap, _∙_, subst}
 use mathlib.Core.Bool.{Bool, true, false, not, _&&_}
 use Prim.Native.Nat.{ℕ, zero, suc, _+_, _-_, _*_, _/_, _%_, _^_, _≤_, _<_}
 use native.Mathlib.Nat.{le-of-eq, lt-of-lt-of-le, lt-of-le-of-lt, lt-irrefl, lt-of-not-le, zero-lt-suc, zero-mul, zero-div, mul-one, mul-assoc, mul-comm}
-use native.Mathlib.Nat.{mul-right-comm, mul-pos, mul-div-cancel, mul-lt-mul-of-pos-right, div-lt-iff-lt-mul}
+use native.Mathlib.Nat.{mul-right-comm, mul-pos, mul-le-mul-right, mul-div-cancel, mul-lt-mul-of-pos-right, div-lt-iff-lt-mul}
 use native.Mathlib.Decide.{decLe}
 use native.Mathlib.Omega.{arith}
 use lib.IntN.{ℤ, pos, negsuc}
@@ -17,6 +17,8 @@ use lib.Ieee.Bits.{ofBits-toBits}
 use lib.Ieee.Exact.{HasValue}
 use lib.Ieee.Positive.{positive, first-pos}
 use lib.Ieee.Scale.{finite, overflow}
+use Rattle.ieee754.specs.Size.{abs}
+use Rattle.ieee754.specs.Bound.{AtMost}
 use Rattle.ieee754.specs.Units.{notNegative, unitsIn}
 use Rattle.ieee754.specs.RoundingLaws.{ExactUnits}
 
@@ -87,6 +89,36 @@ unfolding neg
 neg-units f nan = refl
 neg-units f (inf s) = refl
 neg-units f (fin s m e) = refl
+
+pub abs-units : (f : Format) (x : Float) → unitsIn f (abs x) ≡ unitsIn f x
+unfolding abs
+abs-units f nan = refl
+abs-units f (inf s) = refl
+abs-units f (fin s m e) = refl
+
+pub abs-fits : (f : Format) (x : Float) → T (fits f x) → T (fits f (abs x))
+unfolding abs fits
+abs-fits f nan F = F
+abs-fits f (inf s) F = tt
+abs-fits f (fin s zero e) F = F
+abs-fits f (fin s (suc m) e) F = F
+
+pub abs-not-negative : (x : Float) → T (finite x) → T (notNegative (abs x))
+unfolding abs
+abs-not-negative nan h = h
+abs-not-negative (inf s) h = h
+abs-not-negative (fin s m e) h = tt
+
+-- a float from -1 to 1
+small-quotient : (a d m : ℕ) → 0 < d → a ≤ 1 * d → a * m / d ≤ m
+small-quotient a d m D h =
+    let l : a * m / d < suc m = div-lt-iff-lt-mul D .1 (omega (arith, mul-le-mul-right m h)) in
+    omega arith
+
+pub at-most-one-units : (f : Format) (x : Float) → AtMost 0 x → unitsIn f x ≤ 2 ^ low f
+at-most-one-units f nan h = absurd h
+at-most-one-units f (inf s) h = absurd h
+at-most-one-units f (fin s m e) h = small-quotient (m * up e) (down e) (2 ^ low f) (down-pos e) h
 
 pub units-lt : (f : Format) (x : Float) → T (fits f x) → unitsIn f x < overflow f
 units-lt f nan F = pow-pos (low f + suc (emax f))

@@ -1,18 +1,18 @@
 -- A coordinate is no longer than the computed length, unless it is tiny: as whole numbers of units of 2 ^ -1074, and with no error at all. Assumes nothing.
 -- A float below x is below it by the 2 ^ -53rd part of x at least, so the rounded root of x * x, rounded, cannot be below x.
-use mathlib.Core.Path.{_≡_, refl, sym, subst}
-use mathlib.Core.Bool.{false}
+use mathlib.Core.Path.{sym, subst}
 use Prim.Native.Nat.{ℕ, zero, suc, _+_, _-_, _*_, _^_, _≤_, _<_}
 use native.Mathlib.Nat.{le-trans, le-of-lt, lt-of-not-le, zero-lt-suc, mul-pos, mul-le-mul, mul-le-mul-left, mul-le-mul-right}
 use native.Mathlib.Decide.{decLe}
 use native.Mathlib.Omega.{arith}
-use lib.IntN.{pos}
 use lib.Dec.{T, lit≤}
 use lib.Pow.{pow-pos}
-use lib.Ieee.{Float, nan, inf, fin, binary64, fits}
+use lib.Ieee.{Float, binary64, fits}
+use lib.Ieee.Scale.{finite}
+use Rattle.ieee754.specs.Size.{abs}
 use Rattle.ieee754.specs.Units.{notNegative}
 use Rattle.ieee754.specs.Closeness.{Close}
-use Rattle.ieee754.proofs.Units.{zero-units, positive-of-units}
+use Rattle.ieee754.proofs.Units.{abs-units, abs-fits, abs-not-negative, positive-of-units}
 use Rattle.ieee754.proofs.Spacing.{gap-below}
 use Rattle.sphericalpoint.specs.Sqrt.{sqrtOf}
 use Rattle.sphericalpoint.specs.NearestRoot.{inUnits, NearestRoot}
@@ -38,33 +38,9 @@ never-below : (v l x s m : ℕ) → 0 < v → 0 < m → (v + 1) * l + x ≤ (v +
     → 2 * ((v + 1) * (v + 1) * m) ≤ x * x → ⊥
 never-below v l x s m p n g h k b = too-small v (x * x) m p n b (cubes v (x * x) s m (reach v l x s g h) k)
 
--- ---- the size of a float as a float
-
-abbrev clear : Float → Float
-clear nan = fin false 0 (pos 0)
-clear (inf s) = fin false 0 (pos 0)
-clear (fin s m e) = fin false m e
-
-clear-fits : (x : Float) → T (fits binary64 x) → T (fits binary64 (clear x))
-unfolding fits
-clear-fits nan F = tt
-clear-fits (inf s) F = tt
-clear-fits (fin s zero e) F = F
-clear-fits (fin s (suc m) e) F = F
-
-clear-not-negative : (x : Float) → T (notNegative (clear x))
-clear-not-negative nan = tt
-clear-not-negative (inf s) = tt
-clear-not-negative (fin s m e) = tt
-
-clear-units : (x : Float) → inUnits (clear x) ≡ inUnits x
-clear-units nan = zero-units binary64 false (pos 0)
-clear-units (inf s) = zero-units binary64 false (pos 0)
-clear-units (fin s m e) = refl
-
 -- ---- the law: p is x * x rounded, and t is no less
 
-module _ (x t : Float) (p : ℕ) (F : T (fits binary64 x)) (G : T (fits binary64 t)) (n : T (notNegative t))
+module _ (x t : Float) (p : ℕ) (F : T (fits binary64 x)) (f : T (finite x)) (G : T (fits binary64 t)) (n : T (notNegative t))
     (c : Close (2 ^ 53) (inUnits x * inUnits x) (p * 2 ^ 1074) (2 ^ 1074)) (h : p ≤ inUnits t) (big : 2 ^ 600 ≤ inUnits x) where
   square-big : 2 * (2 ^ 53 * 2 ^ 53 * 2 ^ 1074) ≤ inUnits x * inUnits x
   square-big = le-trans (lit≤ {m = 2 * (2 ^ 53 * 2 ^ 53 * 2 ^ 1074)} {n = 2 ^ 600 * 2 ^ 600} tt) (mul-le-mul big big)
@@ -93,9 +69,9 @@ module _ (x t : Float) (p : ℕ) (F : T (fits binary64 x)) (G : T (fits binary64
       -- the root is nearer to its rounded value than to x
       nearer : inUnits (sqrtOf t) < inUnits x → 4 * (inUnits t * 2 ^ 1074) < (inUnits (sqrtOf t) + inUnits x) * (inUnits (sqrtOf t) + inUnits x)
       nearer g =
-          let e = clear-units x in
+          let e = abs-units binary64 x in
           subst (λ (z : ℕ). 4 * (inUnits t * 2 ^ 1074) < (inUnits (sqrtOf t) + z) * (inUnits (sqrtOf t) + z)) e
-          (law .larger (clear x) (clear-fits x F) (clear-not-negative x) (subst (λ (z : ℕ). inUnits (sqrtOf t) < z) (sym e) g))
+          (law .larger (abs x) (abs-fits binary64 x F) (abs-not-negative x f) (subst (λ (z : ℕ). inUnits (sqrtOf t) < z) (sym e) g))
 
       impossible : inUnits (sqrtOf t) < inUnits x → ⊥
       impossible g =

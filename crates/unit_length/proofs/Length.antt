@@ -149,7 +149,7 @@ module _ (a : SphericalPoint) (h : IsF64 a) (r : InRange a) where
   under v b f k u big l = go (decLe (2 ^ 600) (inUnits v))
     where
       go : Dec (2 ^ 600 ≤ inUnits v) → inUnits v ≤ b
-      go (yes g) = le-trans (coordinate-le v (all-squares a) (inUnits (square v)) f all-fits all-sign (close v f k) u g) l
+      go (yes g) = le-trans (coordinate-le v (all-squares a) (inUnits (square v)) f (at-most-finite 0 v k) all-fits all-sign (close v f k) u g) l
       go (no g) = le-trans (le-of-lt (lt-of-not-le g)) big
 
   pub shorter : (b : ℕ) → 2 ^ 600 ≤ b → inUnits (len a) ≤ b → (inUnits (a .x) ≤ b) × (inUnits (a .y) ≤ b) × (inUnits (a .z) ≤ b)

@@ -2,28 +2,26 @@
 -- nearly. So it has once it is normalised again. Assumes nothing.
 use mathlib.Core.Path.{_≡_, refl, sym, ap, _∙_, subst}
 use mathlib.Core.Bool.{Bool, true, false, not}
-use Prim.Native.Nat.{ℕ, zero, suc, _+_, _*_, _/_, _^_, _≤_, _<_}
-use native.Mathlib.Nat.{le-refl, le-trans, le-of-lt, lt-of-not-le, not-le-of-lt, zero-lt-suc, mul-pos, mul-comm, mul-le-mul, mul-le-mul-right}
-use native.Mathlib.Nat.{add-le-add, div-lt-iff-lt-mul}
+use Prim.Native.Nat.{ℕ, _+_, _*_, _^_, _≤_, _<_}
+use native.Mathlib.Nat.{le-refl, le-trans, le-of-lt, lt-of-not-le, not-le-of-lt, mul-pos, mul-comm, mul-le-mul, mul-le-mul-right}
+use native.Mathlib.Nat.{add-le-add}
 use native.Mathlib.Decide.{decLe}
-use native.Mathlib.Omega.{arith}
-use lib.Dec.{T, lt→ltb, lit≤}
+use lib.Dec.{T, lit≤}
 use lib.Pow.{pow-pos}
-use lib.Ieee.{Float, nan, inf, fin, binary64, up, down, div, lt, fits}
-use lib.Ieee.Fits.{down-pos, div-fits}
+use lib.Ieee.{Float, binary64, div, lt, fits}
+use lib.Ieee.Fits.{div-fits}
 use Rattle.ieee754.specs.Bound.{AtMost}
 use Rattle.ieee754.specs.Units.{notNegative}
 use Rattle.ieee754.specs.Closeness.{Near}
 use Rattle.ieee754.proofs.Bounds.{at-most-finite}
 use Rattle.ieee754.proofs.Closeness.{near-scale, Squared}
-use Rattle.ieee754.proofs.Units.{not-negative-finite}
+use Rattle.ieee754.proofs.Units.{not-negative-finite, at-most-one-units}
 use Rattle.ieee754.proofs.Operations.{quotient-close, quotient-at-most-one}
 use Rattle.sphericalpoint.specs.declared.SphericalPoint.{SphericalPoint}
-use Rattle.sphericalpoint.specs.Sqrt.{sqrtOf}
 use Rattle.sphericalpoint.specs.Vector.{equalityTolerance, xyzMul, xyzDiv, xyzSum, xyzLength, normalized}
 use Rattle.sphericalpoint.specs.Point.{pickPoint, normalizedUnlessShort}
 use Rattle.sphericalpoint.specs.NearestRoot.{inUnits}
-use Rattle.sphericalpoint.proofs.sqrt.NearestLaw.{sqrt-nearest}
+use Rattle.sphericalpoint.proofs.sqrt.NearestLaw.{root-from-zero}
 use Rattle.unit_length.specs.UnitPoint.{IsF64, InRange, Short, Long, squares, squareOfOne, Within, UnitPoint}
 use Rattle.unit_length.specs.UnitLaws.{NormalizedIsUnit, NormalizedTwiceIsUnit, VertexOnce, VertexTwice}
 use Rattle.unit_length.proofs.Assembly.{quotient-squared, all-over, all-under, total, within-cancel, within-49}
@@ -35,27 +33,6 @@ use Rattle.unit_length.proofs.Length.{all-squares, len, all-fits, all-s
 length-is : (a : SphericalPoint) → xyzLength a ≡ len a
 unfolding xyzLength xyzSum xyzMul
 length-is a = refl
-
-root-fits : (t : Float) → T (fits binary64 t) → T (notNegative t) → T (fits binary64 (sqrtOf t)) × T (notNegative (sqrtOf t))
-root-fits nan F p = absurd p
-root-fits (inf s) F p = absurd p
-root-fits (fin true m e) F p = absurd p
-root-fits (fin false zero e) F p = unfold sqrtOf in (F, p)
-root-fits (fin false (suc m) e) F p =
-    let h = sqrt-nearest (fin false (suc m) e) F (lt→ltb 0 (suc m) (zero-lt-suc m)) in
-    (h .held, h .from-zero)
-
--- ---- a float from -1 to 1 is at most 2 ^ 1074 units
-
-small-quotient : (a d m : ℕ) → 0 < d → a ≤ 1 * d → a * m / d ≤ m
-small-quotient a d m D h =
-    let l : a * m / d < suc m = div-lt-iff-lt-mul D .1 (omega (arith, mul-le-mul-right m h)) in
-    omega arith
-
-one-units : (x : Float) → AtMost 0 x → inUnits x ≤ 2 ^ 1074
-one-units nan h = absurd h
-one-units (inf s) h = absurd h
-one-units (fin s m e) h = small-quotient (m * up e) (down e) (2 ^ 1074) (down-pos e) h
 
 -- ---- the law
 
@@ -72,10 +49,10 @@ module _ (a : SphericalPoint) (h : IsF64 a) (r : InRange a) where
   l = inUnits (len a)
 
   len-fits : T (fits binary64 (len a))
-  len-fits = root-fits (all-squares a) (all-fits a h r) (all-sign a h r) .0
+  len-fits = root-from-zero (all-squares a) (all-fits a h r) (all-sign a h r) .0
 
   len-sign : T (notNegative (len a))
-  len-sign = root-fits (all-squares a) (all-fits a h r) (all-sign a h r) .1
+  len-sign = root-from-zero (all-squares a) (all-fits a h r) (all-sign a h r) .1
 
   long-is : Long a → 2 ^ 1039 ≤ l
   long-is g = long-units (len a) len-fits len-sign (subst (λ (z : Float). T (not (lt z equalityTolerance))) (length-is a) g)
@@ -97,7 +74,7 @@ module _ (a : SphericalPoint) (h : IsF64 a) (r : InRange a) where
         let within = quotient-within v f k s in
         quotient-squared
         (quotient-close binary64 v (len a) f len-fits (not-negative-finite (len a) len-sign) (at-most-finite 0 (div binary64 v (len a)) within)) s
-        (one-units (div binary64 v (len a)) within) (pow-pos 1074)
+        (at-most-one-units binary64 (div binary64 v (len a)) within) (pow-pos 1074)
 
     length-scaled : Near (2 ^ 59) 325 (squares a * (2 ^ 1074 * 2 ^ 1074)) (2 ^ 1074 * 2 ^ 1074 * (l * l))
     length-scaled =

@@ -5,11 +5,12 @@ use mathlib.Core.Bool.{true, false}
 use Prim.Native.Nat.{ℕ, zero, suc, _+_, _*_, _^_, _≤_, _<_}
 use native.Mathlib.Nat.{lt-of-le-of-lt, le-of-suc-le-suc, mul-pos, zero-lt-suc}
 use native.Mathlib.Omega.{arith}
-use lib.Dec.{T}
+use lib.Dec.{T, lt→ltb}
 use lib.Pow.{pow-pos}
 use lib.Ieee.{Float, nan, inf, fin, binary64, units, fits}
 use lib.Ieee.Exact.{HasValue}
 use lib.Ieee.Positive.{positive}
+use Rattle.ieee754.specs.Units.{notNegative}
 use Rattle.ieee754.proofs.Units.{in-format, placeOf, at-place, units-of, units-lt, value-not-negative, same-units}
 use Rattle.ieee754.proofs.Spacing.{on-grid}
 use Rattle.sphericalpoint.specs.Sqrt.{isqrt, sqrtOf}
@@ -77,6 +78,16 @@ sqrt-nearest (fin false (suc m) e) F p =
 
     near : (j : ℕ) → suc m * 2 ^ j < 2 ^ 2098 → j ≤ 2097
     near j l = le-of-suc-le-suc (lt-of-pow-lt j 2098 (lt-of-le-of-lt (least (2 ^ j) m) l))
+
+-- so the root of an `f64` from 0 up, zero included, is another
+pub root-from-zero : (x : Float) → T (fits binary64 x) → T (notNegative x) → T (fits binary64 (sqrtOf x)) × T (notNegative (sqrtOf x))
+root-from-zero nan F p = absurd p
+root-from-zero (inf s) F p = absurd p
+root-from-zero (fin true m e) F p = absurd p
+root-from-zero (fin false zero e) F p = unfold sqrtOf in (F, p)
+root-from-zero (fin false (suc m) e) F p =
+    let h = sqrt-nearest (fin false (suc m) e) F (lt→ltb 0 (suc m) (zero-lt-suc m)) in
+    (h .held, h .from-zero)
 
 -- ---- and of nothing else
 
