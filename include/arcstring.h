@@ -51,9 +51,10 @@ uint32_t arcstring_xyzs_coplanar(double ax, double ay, double az, double bx, dou
 uint32_t arcstring_point(double x, double y, double z, double out[3]);
 
 /* The string that a list of points makes: each point divided by its length, and if first and last are then equal, closed
- * and without the last. `count` is its number of vertices. A vertex is of unit length: its coordinates are from -1 to 1, and the
- * exact sum of their squares is less than 2^-49 away from 1. Only a point whose length, as it is computed, is below 3e-11 stays as
- * it is. So no later call refuses by 1, 3 or 4 what was built. Refuses by 1, 2, 3, 4 and 7. */
+ * and without the last. `count` is its number of vertices. Vertex k is made of point k and is of unit length: its coordinates
+ * are from -1 to 1, and the exact sum of their squares is less than 2^-49 away from 1. Only a point whose length, as it is
+ * computed, is below 3e-11 stays as it is. What was built passes the checks (1, 3 and 4) of every call that takes a string.
+ * Refuses by 1, 2, 3, 4 and 7. */
 uint32_t arcstring_build(const double *points, size_t points_len, double *out, size_t out_len,
                          size_t *count, uint8_t *closed);
 

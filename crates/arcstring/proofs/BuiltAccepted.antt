@@ -1,9 +1,9 @@
 -- Vertex k of a built string is built from point k: of length 1, nearly, or a short point as it was. Either way it is in range, so what is built passes the
 -- checks of a stored string. The theorems of `specs/BuildLaws.antt`, and `built-stored` for callers. Assumes nothing.
-use mathlib.Core.Path.{_≡_, refl, sym, _∙_, subst}
+use mathlib.Core.Path.{_≡_, refl, sym, subst}
 use mathlib.Core.Bool.{Bool, true, false, not}
 use mathlib.Core.List.{List, [], _∷_}
-use Prim.Native.Nat.{ℕ, zero, suc, _+_, _*_, _/_, _≤_, _<_}
+use Prim.Native.Nat.{ℕ, zero, suc, _+_, _*_, _/_, _<_}
 use native.Mathlib.Omega.{arith}
 use lib.Dec.{T}
 use lib.ListN.{length, getD}
@@ -21,8 +21,7 @@ use Rattle.arcstring.specs.Check.{inRange, allInRange, storedCheck, buil
 use Rattle.arcstring.specs.Build.{normalizedAll, endsMeet, builtString, flagged, buildInto, build, buildFlagged}
 use Rattle.arcstring.specs.BuildLaws.{AllF64, BuiltVertices, Stored, BuiltAccepted, FlaggedAccepted}
 use Rattle.arcstring.proofs.Answers.{both-passed}
-use Rattle.arcstring.proofs.Checks.{range-bound, bound-range, build-whole, by-range, stored-not-empty}
-use Rattle.arcstring.proofs.Flat.{length-flat}
+use Rattle.arcstring.proofs.Checks.{range-bound, bound-range, build-whole, points-stored}
 use Rattle.arcstring.proofs.Builds.{closed-vertex, closed-length, open-vertex, open-length, built-count}
 
 -- ---- a list of coordinates in range
@@ -40,13 +39,6 @@ flat-range (p ∷ ps) h =
     let r = h 0 (omega arith) in
     let rest = flat-range ps (λ k l. h (suc k) (omega arith)) in
     rw (bound-range (p .x) (r .x-in-range), bound-range (p .y) (r .y-in-range), bound-range (p .z) (r .z-in-range), rest)
-
--- points in range, as many as a string may have, pass the checks of a stored list
-points-stored : (ps : List SphericalPoint) → (1 ≤ length ps) × (length ps ≤ 1024) → ((k : ℕ) → k < length ps → InRange (getD ps k noPoint))
-    → storedCheck (flat ps) ≡ 0
-points-stored ps n h =
-    let l = length-flat ps in
-    sym (by-range 0 (flat ps) (omega arith) refl (omega arith) true (flat-range ps h) ∙ stored-not-empty (flat ps) (λ e. omega arith))
 
 -- ---- the vertices
 
@@ -92,8 +84,9 @@ module _ (v : List Float) (f64 : AllF64 v) (ok : buildCheck v ≡ 0) where
 
   pub built-stored : storedCheck (flat (builtString (points v) .vertices)) ≡ 0
   built-stored =
-      points-stored vertices (built-count v ok)
-      (λ k h. let b = built-vertex k h in vertex-in-range (pointAt v k) (getD vertices k noPoint) (point-in-range k (b .0)) (b .1))
+      let n = built-count v ok in
+      points-stored vertices (n .0) (n .1)
+      (flat-range vertices (λ k h. let b = built-vertex k h in vertex-in-range (pointAt v k) (getD vertices k noPoint) (point-in-range k (b .0)) (b .1)))
 
 -- ---- the theorems
 

@@ -20,6 +20,8 @@ use Rattle.arcstring.specs.declared.check.Checked.{Checked}
 use Rattle.arcstring.specs.declared.check.Checked.the-variants.{Refused}
 use Rattle.arcstring.specs.Answer.{numberIf, firstOf, refusalNumber}
 use Rattle.arcstring.specs.Check.{checkNumber, inRange, allInRange, listCheck, storedCheck, buildCheck, pointCheck}
+use Rattle.arcstring.specs.Points.{flat}
+use Rattle.arcstring.proofs.Flat.{length-flat}
 use Rattle.arcstring.proofs.Answers.{first-passes, second-passes, first-refused}
 
 -- ---- a coordinate: in range is at most 1 in size
@@ -148,6 +150,12 @@ stored-some v h =
     let e : length v ≡ 0 → ⊥ = eqb-false (length v) 0 (if-none (eqb (length v) 0) 0 (few-passes (numberIf (eqb (length v) 0) 1) v h)) in
     let w = stored-whole v h .triples in
     omega arith
+
+-- points in range, as many as a string may have, are such a list
+pub points-stored : (ps : List SphericalPoint) → 1 ≤ length ps → length ps ≤ 1024 → allInRange (flat ps) ≡ true → storedCheck (flat ps) ≡ 0
+points-stored ps some few range =
+    let l = length-flat ps in
+    sym (by-range 0 (flat ps) (omega arith) refl (omega arith) true range ∙ stored-not-empty (flat ps) (λ e. omega arith))
 
 -- an accepted list to build from has two points at least
 pub build-whole : (v : List Float) → buildCheck v ≡ 0 → WholeList v

@@ -2,7 +2,7 @@
 use mathlib.Core.Path.{_≡_, refl, sym, ap, ap₂, _∙_}
 use mathlib.Core.Bool.{Bool, true, false, _&&_, and-assoc}
 use mathlib.Core.List.{List, [], _∷_, _++_}
-use Prim.Native.Nat.{ℕ, suc, _+_, _*_, _/_, _≤_, _<_}
+use Prim.Native.Nat.{ℕ, suc, _+_, _/_, _≤_, _<_}
 use native.Mathlib.Numerals.{add-one}
 use native.Mathlib.Omega.{arith}
 use lib.ListN.{length, getD, take, drop, length-take}
@@ -12,8 +12,8 @@ use Rattle.sphericalpoint.specs.declared.SphericalPoint.{SphericalPoint}
 use Rattle.arcstring.specs.Answer.{answered}
 use Rattle.arcstring.specs.Points.{points, flat, noPoint}
 use Rattle.arcstring.specs.Check.{inRange, allInRange, storedCheck}
-use Rattle.arcstring.proofs.Flat.{flat-points, flat-append, length-flat, count-points}
-use Rattle.arcstring.proofs.Checks.{by-range, stored-not-empty, stored-whole, stored-some}
+use Rattle.arcstring.proofs.Flat.{flat-points, flat-append, count-points}
+use Rattle.arcstring.proofs.Checks.{points-stored, stored-whole, stored-some}
 use Rattle.arcstring_simplify.specs.Simplify.{simplified}
 use Rattle.arcstring_simplify.proofs.Simplified.{simplified-keeps, simplified-no-longer, first-vertex-stays}
 
@@ -57,5 +57,4 @@ simplified-accepted v closed qs accepted h =
     let range : allInRange (flat qs) ≡ true =
     simplified-keeps (λ (rs : List SphericalPoint). allInRange (flat rs) ≡ true) (λ k rs low high r. range-after k rs high r) closed (points v) qs h
     (ap allInRange (flat-points (length v / 3) v (whole .triples)) ∙ whole .in-range) in
-    let size : length (flat qs) ≡ 3 * length qs = length-flat qs in
-    sym (by-range 0 (flat qs) (omega arith) refl (omega (arith, whole .at-most)) true range ∙ stored-not-empty (flat qs) (λ z. omega arith))
+    points-stored qs some (omega (arith, whole .at-most)) range

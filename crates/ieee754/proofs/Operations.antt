@@ -15,7 +15,7 @@ use lib.Ieee.Scale.{round-same, grid, finite, round-val, round-under}
 use Rattle.ieee754.specs.Bound.{AtMost}
 use Rattle.ieee754.specs.Units.{notNegative, unitsIn}
 use Rattle.ieee754.specs.Closeness.{Close}
-use Rattle.ieee754.specs.RoundingLaws.{ProductClose, SumClose, SumFrom, QuotientClose}
+use Rattle.ieee754.specs.RoundingLaws.{ProductClose, SumClose, SumFrom, QuotientClose, QuotientAtMostOne}
 use Rattle.ieee754.proofs.Bounds.{round-at-most}
 use Rattle.ieee754.proofs.Units.{exact-units, zero-units, value-not-negative}
 use Rattle.ieee754.proofs.Closeness.{close-cancel}
@@ -187,9 +187,7 @@ quotient-close f (fin s m e) (inf t) F G g h = absurd g
 quotient-close f (fin s m e) (fin t zero d) F G g h = absurd (by-zero f s m e t d h)
 quotient-close f (fin s m e) (fin t (suc n) d) F G g h = quotient-near f s m e t n d F G h
 
--- of no more than the divisor: from -1 to 1
-pub quotient-at-most-one : (f : Format) (x y : Float) → T (fits f x) → T (fits f y) → T (finite x) → 0 < unitsIn f y → unitsIn f x ≤ unitsIn f y
-    → AtMost 0 (div f x y)
+pub quotient-at-most-one : QuotientAtMostOne
 quotient-at-most-one f nan y F G g p l = absurd g
 quotient-at-most-one f (inf s) y F G g p l = absurd g
 quotient-at-most-one f (fin s m e) nan F G g p l = absurd (omega arith)

@@ -8,6 +8,7 @@ use lib.Dec.{T}
 use lib.IntN.{ℤ}
 use lib.Ieee.{Float, fin, Format, prec, low, up, down, round, add, mul, div, fits}
 use lib.Ieee.Scale.{finite}
+use Rattle.ieee754.specs.Bound.{AtMost}
 use Rattle.ieee754.specs.Units.{notNegative, unitsIn}
 use Rattle.ieee754.specs.Closeness.{Close}
 
@@ -58,7 +59,10 @@ abbrev pub SumFrom : Type 0
 SumFrom = (f : Format) (x y : Float) → T (fits f x) → T (fits f y) → T (notNegative x) → T (notNegative y) → T (finite (add f x y))
     → (unitsIn f x ≤ unitsIn f (add f x y)) × (unitsIn f y ≤ unitsIn f (add f x y))
 
--- the quotient by a finite float, of any signs
+-- The quotient by a finite float, of any signs. Where the divisor is no smaller in size, it is from -1 to 1.
 abbrev pub QuotientClose : Type 0
 QuotientClose = (f : Format) (x y : Float) → T (fits f x) → T (fits f y) → T (finite y) → T (finite (div f x y))
     → Close (2 ^ prec f) (unitsIn f x * 2 ^ low f) (unitsIn f (div f x y) * unitsIn f y) (unitsIn f y)
+
+abbrev pub QuotientAtMostOne : Type 0
+QuotientAtMostOne = (f : Format) (x y : Float) → T (fits f x) → T (fits f y) → T (finite x) → 0 < unitsIn f y → unitsIn f x ≤ unitsIn f y → AtMost 0 (div f x y)

@@ -79,7 +79,7 @@ sqrt-nearest (fin false (suc m) e) F p =
     near : (j : ℕ) → suc m * 2 ^ j < 2 ^ 2098 → j ≤ 2097
     near j l = le-of-suc-le-suc (lt-of-pow-lt j 2098 (lt-of-le-of-lt (least (2 ^ j) m) l))
 
--- so the root of an `f64` from 0 up, zero included, is another
+-- so the root of an `f64` from 0 up, zero included, is one too
 pub root-from-zero : (x : Float) → T (fits binary64 x) → T (notNegative x) → T (fits binary64 (sqrtOf x)) × T (notNegative (sqrtOf x))
 root-from-zero nan F p = absurd p
 root-from-zero (inf s) F p = absurd p
