@@ -14,6 +14,7 @@
 #define MOST 1024
 
 static double a[3 * MOST], b[3 * MOST], cuts[3], out[3 * MOST], points[3 * MOST * MOST];
+static uint32_t buoys[MOST], out_buoys[MOST];
 static uint8_t marks[MOST * MOST], flags[MOST], flag, other;
 static size_t n, kept, lengths[MOST], length;
 static uint64_t counts[4];
@@ -24,10 +25,10 @@ static void xyz_eq(void) { refusal = arcstring_xyz_eq(a[0], a[1], a[2], b[0], b[
 static void coplanar(void) { refusal = arcstring_xyzs_coplanar(a[0], a[1], a[2], a[6], a[7], a[8], a[3], a[4], a[5], &flag); }
 static void point(void) { refusal = arcstring_point(a[0] / 2, a[1], a[2], out); }
 static void pair(void) { refusal = arcstring_pair(a, b, &flag, &other, out); }
-static void build(void) { refusal = arcstring_build(a, 3 * n, out, 3 * MOST, &length, &flag); }
-static void build_flagged(void) { refusal = arcstring_build_flagged(a, 3 * n, 1, out, 3 * MOST, &length); }
-static void walk_back(void) { refusal = arcstring_walk_back(a, 3 * n, out, 3 * MOST, &length); }
-static void restart(void) { refusal = arcstring_restart(a, 3 * n, 1, 2, out, 3 * MOST, &length); }
+static void build(void) { refusal = arcstring_build(a, 3 * n, buoys, n, out, 3 * MOST, out_buoys, MOST, &length, &flag); }
+static void build_flagged(void) { refusal = arcstring_build_flagged(a, 3 * n, buoys, n, 1, out, 3 * MOST, out_buoys, MOST, &length); }
+static void walk_back(void) { refusal = arcstring_walk_back(a, 3 * n, buoys, n, out, 3 * MOST, out_buoys, MOST, &length); }
+static void restart(void) { refusal = arcstring_restart(a, 3 * n, buoys, n, 1, 2, out, 3 * MOST, out_buoys, MOST, &length); }
 static void run(void) { arcstring_run(a, 3 * n, 1, n - 1, &kept, &length), refusal = 0; }
 static void count(void) { refusal = arcstring_count(a, 3 * n, 1, b, 3 * n, 1, counts); }
 static void listing(void)
@@ -54,12 +55,16 @@ static void within(void) { refusal = arcstring_within(a, 3 * n, b, 3 * n, b, 3 *
 static void contains(void) { refusal = arcstring_contains(a, 3 * n, a, 3 * n, 1, b, 3 * n, &flag); }
 static void turns(void) { refusal = arcstring_turn_orientations(a, 3 * n, 1, out, 3 * MOST, &length); }
 static void midpoints(void) { refusal = arcstring_midpoints(a, 3 * n, 1, out, 3 * MOST, &length); }
-static void simplify(void) { refusal = arcstring_simplify(a, 3 * n, 0, out, 3 * MOST, &length); }
-static void insert(void) { refusal = arcstring_insert_vertices(a, 3 * (n / 2), 0, cuts, 3, out, 3 * MOST, &length); }
+static void simplify(void) { refusal = arcstring_simplify(a, 3 * n, buoys, n, 0, out, 3 * MOST, out_buoys, MOST, &length); }
+static void insert(void)
+{
+    refusal = arcstring_insert_vertices(a, 3 * (n / 2), buoys, n / 2, 0, cuts, 3, buoys, 1, out, 3 * MOST, out_buoys, MOST, &length);
+}
 static void split_leg(void) { refusal = arcstring_split_leg(a, cuts, 3, out, 3 * MOST, &length); }
 static void split(void)
 {
-    refusal = arcstring_split(a, 3 * (n / 4), 0, cuts, 3, out, 3 * MOST, lengths, MOST, flags, MOST, &length);
+    refusal = arcstring_split(a, 3 * (n / 4), buoys, n / 4, 0, cuts, 3, buoys, 1, out, 3 * MOST, out_buoys, MOST, lengths, MOST, flags, MOST,
+                              &length);
 }
 static void equals(void) { refusal = arcstring_equals(a, 3 * n, a, 3 * n, 0, b, 3 * n, b, 3 * n, 0, &flag); }
 static void overlaps(void) { refusal = arcstring_overlaps(a, 3 * n, a, 3 * n, 0, b, 3 * n, b, 3 * n, 0, &flag); }
@@ -76,7 +81,8 @@ static const struct call { const char *name; void (*run)(void); } calls[] = {
     {"arcstring_equals", equals}, {"arcstring_overlaps", overlaps},
 };
 
-/* a chain of unit points in which every second one lies on the leg between its neighbours */
+/* a chain of unit points in which every second one lies on the leg between its neighbours, or, one in four of these, beyond the next
+ * one, so that simplifying removes it */
 static void fill(double *v, double slope)
 {
     size_t i, k;
@@ -87,8 +93,8 @@ static void fill(double *v, double slope)
     }
     for (i = 1; i < n; i += 2) {
         const double *p = v + 3 * (i - 1), *q = i + 1 < n ? v + 3 * (i + 1) : v;
-        double m[3], r = 0.0;
-        for (k = 0; k < 3; k++) m[k] = p[k] + q[k], r += m[k] * m[k];
+        double m[3], r = 0.0, t = i % 8 == 3 ? 1.5 : 0.5;
+        for (k = 0; k < 3; k++) m[k] = (1.0 - t) * p[k] + t * q[k], r += m[k] * m[k];
         for (k = 0; k < 3; k++) v[3 * i + k] = m[k] / sqrt(r);
     }
 }

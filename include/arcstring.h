@@ -3,6 +3,11 @@
  * A list of points is flat: three doubles a point (x, y, z), each from -1 to 1; its length is in doubles. A string is
  * its list of vertices and a flag: 0 is open, anything else closed. A leg by itself is six doubles: start, then end.
  *
+ * Each vertex carries a number of 32 bits, its buoy's, 0 for none. A call that writes a string is lent the numbers in a list of their
+ * own, one for each vertex, and one for each point put in or cut at, and writes the numbers of the vertices that it writes into a
+ * further buffer: each number goes where its vertex goes. Nothing but the numbers written depends on their values. A caller
+ * without buoys lends zeros, as many as there are vertices.
+ *
  * Every call but arcstring_run returns 0, or the number of a refusal, and then changes nothing that it was lent:
  *
  *     1  a list is not whole triples, or a string has no vertex
@@ -12,22 +17,24 @@
  *     5  simplifying removes past the end: the published Rust panics there
  *     6  the last leg of a closed string in arcstring_overlaps: the published Rust panics there
  *     7  the answer is longer than a buffer lent for it
+ *    10  a list of numbers is not as long as its list of vertices or of points
  *
- * The checks run in the order of the numbers within a list, and the first list comes before the second, then points to insert
- * or to split at; then the 3 of a result, 5 and 6; 7 comes last.
+ * The checks run in the order of the numbers within a list, with 10 right after 1, and the first list comes before the second, then
+ * points to insert or to split at; then the 3 of a result, 5 and 6; 7 comes last, and looks at the numbers' buffer too.
  * Past an answer a buffer keeps what it held. What is lent for results, buffers and single places alike, may not overlap
  * anything else that is handed in.
  *
  * Nothing is allocated: a call works on the stack. How much it takes there at most, in bytes, rounded up, as measured on x86-64
  * with strings of 64 and of 1,024 vertices (compare/run stack):
  *
- *     148,500  arcstring_overlaps
- *     143,000  arcstring_split
- *      99,500  arcstring_equals
+ *     161,000  arcstring_split
+ *     124,000  arcstring_overlaps
  *      92,000  arcstring_crossings, arcstring_crossings_with_self, arcstring_leg_crossings, arcstring_count, arcstring_crosses,
  *              arcstring_crosses_self, arcstring_same_side
- *      50,000  arcstring_simplify
- *      25,000  arcstring_insert_vertices, arcstring_split_leg
+ *      66,500  arcstring_equals
+ *      29,500  arcstring_insert_vertices
+ *      25,000  arcstring_split_leg
+ *      20,000  arcstring_simplify
  *       1,000  every other call
  */
 #ifndef ARCSTRING_H
@@ -35,6 +42,9 @@
 
 #include <stddef.h>
 #include <stdint.h>
+
+/* Raised where a prototype changes. 2: the calls that write a string take and write the numbers of buoys. */
+#define ARCSTRING_VERSION 2
 
 #ifdef __cplusplus
 extern "C" {
@@ -53,22 +63,24 @@ uint32_t arcstring_point(double x, double y, double z, double out[3]);
 /* The string that a list of points makes: each point divided by its length, and if first and last are then equal, closed
  * and without the last. `count` is its number of vertices. Vertex k is made of point k and is of unit length: its coordinates
  * are from -1 to 1, and the exact sum of their squares is less than 2^-49 away from 1. Only a point whose length, as it is
- * computed, is below 3e-11 stays as it is. What was built passes the checks (1, 3 and 4) of every call that takes a string.
- * Refuses by 1, 2, 3, 4 and 7. */
-uint32_t arcstring_build(const double *points, size_t points_len, double *out, size_t out_len,
+ * computed, is below 3e-11 stays as it is. Vertex k has the number of point k. What was built passes the checks (1, 3 and 4) of every
+ * call that takes a string. Refuses by 1, 10, 2, 3, 4 and 7. */
+uint32_t arcstring_build(const double *points, size_t points_len, const uint32_t *buoys, size_t buoys_len,
+                         double *out, size_t out_len, uint32_t *out_buoys, size_t out_buoys_len,
                          size_t *count, uint8_t *closed);
 
-/* The same vertices, for a caller who gives the flag. Refuses by 1, 2, 3, 4 and 7. */
-uint32_t arcstring_build_flagged(const double *points, size_t points_len, uint8_t flag, double *out, size_t out_len,
-                                 size_t *count);
+/* The same vertices and numbers, for a caller who gives the flag. Refuses by 1, 10, 2, 3, 4 and 7. */
+uint32_t arcstring_build_flagged(const double *points, size_t points_len, const uint32_t *buoys, size_t buoys_len, uint8_t flag,
+                                 double *out, size_t out_len, uint32_t *out_buoys, size_t out_buoys_len, size_t *count);
 
-/* The vertices last to first. Refuses by 1, 3, 4 and 7. */
-uint32_t arcstring_walk_back(const double *v, size_t v_len, double *out, size_t out_len, size_t *count);
+/* The vertices last to first, and their numbers. Refuses by 1, 10, 3, 4 and 7. */
+uint32_t arcstring_walk_back(const double *v, size_t v_len, const uint32_t *buoys, size_t buoys_len,
+                             double *out, size_t out_len, uint32_t *out_buoys, size_t out_buoys_len, size_t *count);
 
-/* A closed string's vertices from vertex `at` on, then those before it; any other string as it is.
- * Refuses by 1, 3, 4 and 7. */
-uint32_t arcstring_restart(const double *v, size_t v_len, uint8_t closed, size_t at, double *out, size_t out_len,
-                           size_t *count);
+/* A closed string's vertices from vertex `at` on, then those before it, and their numbers; any other string as it is.
+ * Refuses by 1, 10, 3, 4 and 7. */
+uint32_t arcstring_restart(const double *v, size_t v_len, const uint32_t *buoys, size_t buoys_len, uint8_t closed, size_t at,
+                           double *out, size_t out_len, uint32_t *out_buoys, size_t out_buoys_len, size_t *count);
 
 /* The run of vertices from position `from` up to, not including, `to`: the part of v that starts at v[*start] and is *len
  * doubles long. Empty, and starting at 0, where the positions are out of order or past the end. Never refuses. */
@@ -150,15 +162,18 @@ uint32_t arcstring_midpoints(const double *v, size_t v_len, uint8_t closed, doub
 
 /* ---- Strings changed. A simplified string, or one with vertices inserted, keeps its flag and its near list. */
 
-/* The string without the vertices that lie along it, in rounds, as the source judges them. Refuses by 1, 3, 4, 5 and 7. An
- * open string never gets 5. */
-uint32_t arcstring_simplify(const double *v, size_t v_len, uint8_t closed, double *out, size_t out_len, size_t *count);
+/* The string without the vertices that lie along it, in rounds, as the source judges them, and the numbers of those that are
+ * left. Refuses by 1, 10, 3, 4, 5 and 7. An open string never gets 5. */
+uint32_t arcstring_simplify(const double *v, size_t v_len, const uint32_t *buoys, size_t buoys_len, uint8_t closed,
+                            double *out, size_t out_len, uint32_t *out_buoys, size_t out_buoys_len, size_t *count);
 
 /* The string with each point put in before the start of every leg that it is along, as arcstring_xyzs_coplanar(start, point,
- * end) has it. The points are used as given, not normalised; there may be none. Refuses by 1, 3 and 4 of the string, then of
- * the points, by 3 where an insertion makes more than 1,024 vertices, and by 7. */
-uint32_t arcstring_insert_vertices(const double *v, size_t v_len, uint8_t closed,
-                                   const double *points, size_t points_len, double *out, size_t out_len, size_t *count);
+ * end) has it, with the point's own number. The points are used as given, not normalised; there may be none. Refuses by 1, 10, 3
+ * and 4 of the string, then of the points, by 3 where an insertion makes more than 1,024 vertices, and by 7. */
+uint32_t arcstring_insert_vertices(const double *v, size_t v_len, const uint32_t *buoys, size_t buoys_len, uint8_t closed,
+                                   const double *points, size_t points_len,
+                                   const uint32_t *point_buoys, size_t point_buoys_len,
+                                   double *out, size_t out_len, uint32_t *out_buoys, size_t out_buoys_len, size_t *count);
 
 /* A leg cut at points: each point that is along a piece and equal to neither of its ends makes it the piece up to the point,
  * and puts a piece of point, point after it. `pieces` is how many there are, six doubles each, or 0 for uncut, which writes
@@ -166,13 +181,15 @@ uint32_t arcstring_insert_vertices(const double *v, size_t v_len, uint8_t closed
 uint32_t arcstring_split_leg(const double leg[6], const double *points, size_t points_len, double *out, size_t out_len,
                              size_t *pieces);
 
-/* A string cut at points. The pieces stand one after another in `out`; counts[k] is how many vertices piece k has, flags[k]
- * is 1 where it is closed and 0 where it is open. Each is built anew, and its near list is its vertices. `pieces` is how many
- * there are, or 0 for uncut, which writes nothing. Refuses by 1, 3 and 4 of the string, then of the points, by 3 where after a
- * cut all pieces together have more than 1,024 vertices, and by 7 where one of the three buffers is too short. */
-uint32_t arcstring_split(const double *v, size_t v_len, uint8_t closed, const double *points, size_t points_len,
-                         double *out, size_t out_len, size_t *counts, size_t counts_len, uint8_t *flags, size_t flags_len,
-                         size_t *pieces);
+/* A string cut at points. The pieces stand one after another in `out`, and their numbers in `out_buoys`; counts[k] is how many
+ * vertices piece k has, flags[k] is 1 where it is closed and 0 where it is open. Each is built anew, and its near list is its
+ * vertices. A point cut at brings its own number into both pieces; a piece that closes drops its last vertex's number with it.
+ * `pieces` is how many there are, or 0 for uncut, which writes nothing. Refuses by 1, 10, 3 and 4 of the string, then of the points,
+ * by 3 where after a cut all pieces together have more than 1,024 vertices, and by 7 where one of the four buffers is too short. */
+uint32_t arcstring_split(const double *v, size_t v_len, const uint32_t *buoys, size_t buoys_len, uint8_t closed,
+                         const double *points, size_t points_len, const uint32_t *point_buoys, size_t point_buoys_len,
+                         double *out, size_t out_len, uint32_t *out_buoys, size_t out_buoys_len,
+                         size_t *counts, size_t counts_len, uint8_t *flags, size_t flags_len, size_t *pieces);
 
 /* Whether two strings are equal by arcstring_eq, or once copies of them are simplified. Refuses as arcstring_eq does, and by 5
  * where it comes to simplify a copy that gets it. */

@@ -1,4 +1,5 @@
 //! Times calls of arcstring_c beside the published Rust: same inputs, one run, by turns, medians.
+use crate::bench_strings as strings;
 use crate::calls::c;
 use crate::expected::{flat, stored, triples};
 use crate::inputs::unit;
@@ -8,7 +9,6 @@ use crate::roots;
 use crate::s2;
 use crate::timing::by_turns;
 use sphersgeo::arcstring::{ArcString, arc_crossings_with_arcstring, point_is_along_arcstring, points_are_on_same_side};
-use sphersgeo::sphericalpoint::MultiSphericalPoint;
 use std::hint::black_box;
 
 pub const SIZES: [usize; 3] = [16, 256, 1024];
@@ -17,7 +17,7 @@ pub const LEGS: [(&str, f64); 2] = [("long", 1.0), ("short", 0.1)];
 // ---- strings and buffers
 
 /// n unit points, each a step from the one before: long legs (step 1), which cross often, or short ones
-fn string(n: usize, seed: u64, step: f64) -> Vec<f64> {
+pub fn string(n: usize, seed: u64, step: f64) -> Vec<f64> {
     let mut random = Random(seed);
     let mut p = [random.coordinate(), random.coordinate(), random.coordinate()];
     let mut next = |_| {
@@ -25,15 +25,6 @@ fn string(n: usize, seed: u64, step: f64) -> Vec<f64> {
         p
     };
     (0..n).flat_map(&mut next).collect()
-}
-
-/// every second vertex on the leg between its neighbours
-fn redundant(v: &[f64]) -> Vec<f64> {
-    let points = triples(v);
-    let middle = |pair: &[Xyz]| unit([0, 1, 2].map(|k| (pair[0][k] + pair[1][k]) / 2.0));
-    let mut out: Vec<Xyz> = points.windows(2).flat_map(|pair| [pair[0], middle(pair)]).collect();
-    out.extend(points.last());
-    flat(&out)
 }
 
 /// n unit points from south to north, some twenty to a turn: no two legs cross
@@ -162,31 +153,7 @@ fn one_leg(kind: &str, n: usize, step: f64) {
 // ---- calls with one answer
 
 /// nanoseconds of the published call and of ours
-type Times = [f64; 2];
-
-fn build(n: usize) -> Times {
-    let v = string(n, 5 + n as u64, 0.1);
-    let (mut out, mut count, mut closed) = (vec![0.0; 3 * n], 0, 0u8);
-    by_turns((16384 / n).max(4), [
-        &mut || _ = black_box(ArcString::try_from(MultiSphericalPoint::try_from(triples(black_box(&v))).unwrap()).unwrap()),
-        &mut || _ = unsafe { c::arcstring_build(black_box(v.as_ptr()), v.len(), out.as_mut_ptr(), out.len(), &mut count, &mut closed) },
-    ])
-}
-
-/// a string of n - 1 vertices of which about every second one goes
-fn simplify(n: usize) -> Times {
-    let v = redundant(&string(n / 2, 9 + n as u64, 0.1));
-    let s = stored(&v, &v, false);
-    let (mut out, mut count) = (vec![0.0; v.len()], 0);
-    by_turns((8192 / n).max(4), [
-        &mut || {
-            let mut copy = black_box(&s).clone();
-            copy.simplify();
-            black_box(copy);
-        },
-        &mut || _ = unsafe { c::arcstring_simplify(black_box(v.as_ptr()), v.len(), 0, out.as_mut_ptr(), out.len(), &mut count) },
-    ])
-}
+pub type Times = [f64; 2];
 
 /// a point far from the string, so that every entry and every leg is looked at
 fn along(n: usize) -> Times {
@@ -232,8 +199,18 @@ fn of_legs(sizes: &[usize], line: fn(&str, usize, f64)) {
 
 fn calls() {
     println!("\n| call | vertices | published, us a call | ratio |\n|---|---|---|---|");
-    let calls: [(&str, &[usize], fn(usize) -> Times); 5] =
-        [("crosses_self", &SIZES, crosses_self), ("same_side", &[1024], same_side), ("build", &SIZES, build), ("simplify", &SIZES, simplify), ("along", &SIZES, along)];
+    let calls: [(&str, &[usize], fn(usize) -> Times); 10] = [
+        ("crosses_self", &SIZES, crosses_self),
+        ("same_side", &[1024], same_side),
+        ("build", &SIZES, strings::build),
+        ("walk_back, beside a copy reversed", &SIZES, strings::walk_back),
+        ("restart, beside a copy rotated", &SIZES, strings::restart),
+        ("simplify, nothing removed", &SIZES, strings::simplify_none),
+        ("simplify, every second vertex removed", &SIZES, strings::simplify_half),
+        ("insert_vertices", &SIZES, strings::insert_vertices),
+        ("split", &SIZES, strings::split),
+        ("along", &SIZES, along),
+    ];
     for (name, sizes, call) in calls {
         for n in sizes {
             let [published, ours] = call(*n);

@@ -3,6 +3,7 @@ use crate::request::{Call, Request};
 
 /// What a place holds before a call, so that a stray write shows.
 pub const BLANK: f64 = -7.25;
+pub const BLANK_BUOY: u32 = 0xA5A5_5A5A;
 pub const BLANK_BYTE: u8 = 0xA5;
 pub const BLANK_NUMBER: u64 = 0x5A5A_5A5A;
 
@@ -10,18 +11,31 @@ pub const BLANK_NUMBER: u64 = 0x5A5A_5A5A;
 const GUARD: usize = 4;
 
 type List = *const f64;
+type Buoys = *const u32;
 
 pub mod c {
-    use super::List;
+    use super::{Buoys, List};
 
     unsafe extern "C" {
         pub fn arcstring_xyz_eq(ax: f64, ay: f64, az: f64, bx: f64, by: f64, bz: f64, yes: *mut u8) -> u32;
         pub fn arcstring_xyzs_coplanar(ax: f64, ay: f64, az: f64, bx: f64, by: f64, bz: f64, cx: f64, cy: f64, cz: f64, yes: *mut u8) -> u32;
         pub fn arcstring_point(x: f64, y: f64, z: f64, out: *mut f64) -> u32;
-        pub fn arcstring_build(p: List, n: usize, out: *mut f64, room: usize, count: *mut usize, closed: *mut u8) -> u32;
-        pub fn arcstring_build_flagged(p: List, n: usize, flag: u8, out: *mut f64, room: usize, count: *mut usize) -> u32;
-        pub fn arcstring_walk_back(v: List, n: usize, out: *mut f64, room: usize, count: *mut usize) -> u32;
-        pub fn arcstring_restart(v: List, n: usize, closed: u8, at: usize, out: *mut f64, room: usize, count: *mut usize) -> u32;
+        pub fn arcstring_build(
+            p: List, n: usize, buoys: Buoys, buoys_n: usize,
+            out: *mut f64, room: usize, out_buoys: *mut u32, buoys_room: usize, count: *mut usize, closed: *mut u8,
+        ) -> u32;
+        pub fn arcstring_build_flagged(
+            p: List, n: usize, buoys: Buoys, buoys_n: usize, flag: u8,
+            out: *mut f64, room: usize, out_buoys: *mut u32, buoys_room: usize, count: *mut usize,
+        ) -> u32;
+        pub fn arcstring_walk_back(
+            v: List, n: usize, buoys: Buoys, buoys_n: usize,
+            out: *mut f64, room: usize, out_buoys: *mut u32, buoys_room: usize, count: *mut usize,
+        ) -> u32;
+        pub fn arcstring_restart(
+            v: List, n: usize, buoys: Buoys, buoys_n: usize, closed: u8, at: usize,
+            out: *mut f64, room: usize, out_buoys: *mut u32, buoys_room: usize, count: *mut usize,
+        ) -> u32;
         pub fn arcstring_run(v: List, n: usize, from: usize, to: usize, start: *mut usize, len: *mut usize);
         pub fn arcstring_pair(a: List, b: List, class: *mut u8, kept: *mut u8, point: *mut f64) -> u32;
         pub fn arcstring_leg_crossings(leg: List, v: List, n: usize, closed: u8, points: *mut f64, room: usize, marks: *mut u8, marks_room: usize, kept: *mut usize, counts: *mut u64) -> u32;
@@ -33,10 +47,22 @@ pub mod c {
         pub fn arcstring_turn_orientations(v: List, n: usize, closed: u8, out: *mut f64, room: usize, count: *mut usize) -> u32;
         pub fn arcstring_midpoints(v: List, n: usize, closed: u8, out: *mut f64, room: usize, count: *mut usize) -> u32;
         pub fn arcstring_along(x: f64, y: f64, z: f64, v: List, n: usize, near: List, near_n: usize, closed: u8, yes: *mut u8) -> u32;
-        pub fn arcstring_simplify(v: List, n: usize, closed: u8, out: *mut f64, room: usize, count: *mut usize) -> u32;
-        pub fn arcstring_insert_vertices(v: List, n: usize, closed: u8, points: List, points_n: usize, out: *mut f64, room: usize, count: *mut usize) -> u32;
+        pub fn arcstring_simplify(
+            v: List, n: usize, buoys: Buoys, buoys_n: usize, closed: u8,
+            out: *mut f64, room: usize, out_buoys: *mut u32, buoys_room: usize, count: *mut usize,
+        ) -> u32;
+        pub fn arcstring_insert_vertices(
+            v: List, n: usize, buoys: Buoys, buoys_n: usize, closed: u8,
+            points: List, points_n: usize, point_buoys: Buoys, point_buoys_n: usize,
+            out: *mut f64, room: usize, out_buoys: *mut u32, buoys_room: usize, count: *mut usize,
+        ) -> u32;
         pub fn arcstring_split_leg(leg: List, points: List, points_n: usize, out: *mut f64, room: usize, pieces: *mut usize) -> u32;
-        pub fn arcstring_split(v: List, n: usize, closed: u8, points: List, points_n: usize, out: *mut f64, room: usize, counts: *mut usize, counts_room: usize, flags: *mut u8, flags_room: usize, pieces: *mut usize) -> u32;
+        pub fn arcstring_split(
+            v: List, n: usize, buoys: Buoys, buoys_n: usize, closed: u8,
+            points: List, points_n: usize, point_buoys: Buoys, point_buoys_n: usize,
+            out: *mut f64, room: usize, out_buoys: *mut u32, buoys_room: usize,
+            counts: *mut usize, counts_room: usize, flags: *mut u8, flags_room: usize, pieces: *mut usize,
+        ) -> u32;
         pub fn arcstring_eq(a: List, an: usize, near: List, near_n: usize, ac: u8, b: List, bn: usize, b_near: List, b_near_n: usize, bc: u8, yes: *mut u8) -> u32;
         pub fn arcstring_equals(a: List, an: usize, near: List, near_n: usize, ac: u8, b: List, bn: usize, b_near: List, b_near_n: usize, bc: u8, yes: *mut u8) -> u32;
         pub fn arcstring_crosses(a: List, an: usize, near: List, near_n: usize, ac: u8, b: List, bn: usize, b_near: List, b_near_n: usize, bc: u8, yes: *mut u8) -> u32;
@@ -52,6 +78,7 @@ pub mod c {
 pub struct Left {
     pub number: u32,
     pub floats: Vec<u64>,
+    pub buoys: Vec<u32>,
     pub bytes: Vec<u8>,
     pub numbers: Vec<u64>,
 }
@@ -61,6 +88,7 @@ impl Left {
     pub fn line(&self, label: &str) -> String {
         let mut words = vec![self.number as u64];
         words.extend(&self.floats);
+        words.extend(self.buoys.iter().map(|n| *n as u64));
         words.extend(self.bytes.iter().map(|b| *b as u64));
         words.extend(&self.numbers);
         words.iter().fold(format!("{label:<48.48}"), |line, w| format!("{line} {w:016X}"))
@@ -74,6 +102,7 @@ pub fn bits(floats: &[f64]) -> Vec<u64> {
 /// The places lent to a call, each kind in one list with a guard past its end.
 struct Lent {
     floats: Vec<f64>,
+    buoys: Vec<u32>,
     bytes: Vec<u8>,
     numbers: Vec<u64>,
 }
@@ -83,6 +112,7 @@ impl Lent {
         let places = r.places();
         Self {
             floats: vec![BLANK; places.floats + GUARD],
+            buoys: vec![BLANK_BUOY; places.buoys + GUARD],
             bytes: vec![BLANK_BYTE; places.bytes + GUARD],
             numbers: vec![BLANK_NUMBER; places.numbers + GUARD],
         }
@@ -91,10 +121,11 @@ impl Lent {
     fn left(mut self, r: &Request, number: u32) -> Left {
         let places = r.places();
         let kept = self.floats.split_off(places.floats).iter().all(|x| *x == BLANK)
+            && self.buoys.split_off(places.buoys).iter().all(|n| *n == BLANK_BUOY)
             && self.bytes.split_off(places.bytes).iter().all(|b| *b == BLANK_BYTE)
             && self.numbers.split_off(places.numbers).iter().all(|n| *n == BLANK_NUMBER);
         assert!(kept, "a write past the end of a buffer: {}", r.line(r.call.name()));
-        Left { number, floats: bits(&self.floats), bytes: self.bytes, numbers: self.numbers }
+        Left { number, floats: bits(&self.floats), buoys: self.buoys, bytes: self.bytes, numbers: self.numbers }
     }
 }
 
@@ -106,7 +137,8 @@ pub fn answer(r: &Request) -> Left {
             Call::XyzEq | Call::XyzsCoplanar | Call::Point | Call::Pair => single(r, &mut lent),
             Call::LegCrossings | Call::Crossings | Call::CrossingsWithSelf | Call::Count | Call::CrossesSelf | Call::SameSide => listing(r, &mut lent),
             Call::Along | Call::Eq | Call::Equals | Call::Crosses | Call::Overlaps | Call::Within | Call::Contains => relation(r, &mut lent),
-            _ => written(r, &mut lent),
+            Call::Run | Call::TurnOrientations | Call::Midpoints | Call::SplitLeg => written(r, &mut lent),
+            _ => string(r, &mut lent),
         }
     };
     lent.left(r, number)
@@ -157,26 +189,42 @@ unsafe fn relation(r: &Request, lent: &mut Lent) -> u32 {
     unsafe { of_two(ap, an, near, near_n, ac, bp, bn, b_near, b_near_n, bc, yes) }
 }
 
+/// the calls that write something else than a string
 unsafe fn written(r: &Request, lent: &mut Lent) -> u32 {
     let ([a, _, b, _], ac, room) = (&r.lists, r.flags[0], r.room);
-    let (v, n, points, points_n) = (a.as_ptr(), a.len(), b.as_ptr(), b.len());
-    let (out, bytes, count) = (lent.floats.as_mut_ptr(), lent.bytes.as_mut_ptr(), lent.numbers.as_mut_ptr() as *mut usize);
+    let (v, n) = (a.as_ptr(), a.len());
+    let (out, count) = (lent.floats.as_mut_ptr(), lent.numbers.as_mut_ptr() as *mut usize);
     unsafe {
         match r.call {
-            Call::Build => c::arcstring_build(v, n, out, room.floats, count, bytes),
-            Call::BuildFlagged => c::arcstring_build_flagged(v, n, ac, out, room.floats, count),
-            Call::WalkBack => c::arcstring_walk_back(v, n, out, room.floats, count),
-            Call::Restart => c::arcstring_restart(v, n, ac, r.at[0], out, room.floats, count),
             Call::Run => {
                 c::arcstring_run(v, n, r.at[0], r.at[1], count, count.add(1));
                 0
             }
             Call::TurnOrientations => c::arcstring_turn_orientations(v, n, ac, out, room.floats, count),
             Call::Midpoints => c::arcstring_midpoints(v, n, ac, out, room.floats, count),
-            Call::Simplify => c::arcstring_simplify(v, n, ac, out, room.floats, count),
-            Call::InsertVertices => c::arcstring_insert_vertices(v, n, ac, points, points_n, out, room.floats, count),
-            Call::SplitLeg => c::arcstring_split_leg(v, points, points_n, out, room.floats, count),
-            _ => c::arcstring_split(v, n, ac, points, points_n, out, room.floats, count.add(1), room.numbers, bytes, room.bytes, count),
+            _ => c::arcstring_split_leg(v, b.as_ptr(), b.len(), out, room.floats, count),
+        }
+    }
+}
+
+/// the calls that write a string or the pieces of one, and their buoys
+unsafe fn string(r: &Request, lent: &mut Lent) -> u32 {
+    let ([a, _, b, _], [a_buoys, b_buoys], ac, room) = (&r.lists, &r.buoys, r.flags[0], r.room);
+    let (v, n, u, un) = (a.as_ptr(), a.len(), a_buoys.as_ptr(), a_buoys.len());
+    let (p, pn, w, wn) = (b.as_ptr(), b.len(), b_buoys.as_ptr(), b_buoys.len());
+    let (out, out_u, bytes) = (lent.floats.as_mut_ptr(), lent.buoys.as_mut_ptr(), lent.bytes.as_mut_ptr());
+    let count = lent.numbers.as_mut_ptr() as *mut usize;
+    unsafe {
+        match r.call {
+            Call::Build => c::arcstring_build(v, n, u, un, out, room.floats, out_u, room.buoys, count, bytes),
+            Call::BuildFlagged => c::arcstring_build_flagged(v, n, u, un, ac, out, room.floats, out_u, room.buoys, count),
+            Call::WalkBack => c::arcstring_walk_back(v, n, u, un, out, room.floats, out_u, room.buoys, count),
+            Call::Restart => c::arcstring_restart(v, n, u, un, ac, r.at[0], out, room.floats, out_u, room.buoys, count),
+            Call::Simplify => c::arcstring_simplify(v, n, u, un, ac, out, room.floats, out_u, room.buoys, count),
+            Call::InsertVertices => c::arcstring_insert_vertices(v, n, u, un, ac, p, pn, w, wn, out, room.floats, out_u, room.buoys, count),
+            _ => c::arcstring_split(
+                v, n, u, un, ac, p, pn, w, wn, out, room.floats, out_u, room.buoys, count.add(1), room.numbers, bytes, room.bytes, count,
+            ),
         }
     }
 }

@@ -4,7 +4,7 @@
 use crate::calls;
 use crate::expected::{self, flat, triples};
 use crate::inputs::{Inputs, between, within_range};
-use crate::request::{Call, Places, Request};
+use crate::request::{Call, Request};
 use crate::strings::send;
 use crate::tally::Tally;
 
@@ -12,10 +12,10 @@ fn simplifies(tally: &mut Tally, i: &mut Inputs) {
     let (v, flag) = (i.course_or_string(), i.flag());
     let r = Request::new(Call::Simplify, &[&v]).flags(flag, 0);
     if let Ok(simple) = expected::result(&r) {
-        let mut again = Request::new(Call::Simplify, &[&simple.floats]).flags(flag, 0);
-        again.room = Places { floats: simple.floats.len(), ..Places::default() };
+        let again = Request::new(Call::Simplify, &[&simple.floats]).flags(flag, 0).room_for(simple.floats.len() / 3);
         let left = calls::answer(&again);
-        tally.compare("simplify, twice", left.number == 0 && left.floats == calls::bits(&simple.floats), || again.line("simplify, twice"));
+        let same = left.number == 0 && left.floats == calls::bits(&simple.floats) && left.buoys == again.buoys[0];
+        tally.compare("simplify, twice", same, || again.line("simplify, twice"));
     }
     send(tally, i, r);
 }
@@ -42,12 +42,15 @@ fn split_legs(tally: &mut Tally, i: &mut Inputs) {
     send(tally, i, Request::new(Call::SplitLeg, &[&leg, &[], &points]));
 }
 
+/// legs of length zero are cut at every one of them: with many, too many pieces to be worked out
+pub fn can_be_split(v: &[f64]) -> bool {
+    v.chunks_exact(3).zip(v[3.min(v.len())..].chunks_exact(3)).filter(|w| w.0 == w.1).count() <= 40
+}
+
 fn splits(tally: &mut Tally, i: &mut Inputs) {
     let (v, flag) = (i.course_or_string(), i.flag());
     let points = i.extra(&v);
-    // legs of length zero are cut at every one of them: too many pieces to be worked out
-    let same = v.chunks_exact(3).zip(v[3.min(v.len())..].chunks_exact(3)).filter(|w| w.0 == w.1).count();
-    if same <= 40 {
+    if can_be_split(&v) {
         send(tally, i, Request::new(Call::Split, &[&v, &[], &points]).flags(flag, 0));
     }
 }

@@ -1,10 +1,12 @@
 //! What each call is to answer: the refusals from `table`, the results from the published Rust, and from both what every place that
-//! was lent is to hold. The published listings say which points are kept; the classes are worked out in `classes`.
-use crate::calls::{BLANK, BLANK_BYTE, BLANK_NUMBER, Left, bits};
+//! was lent is to hold. The published listings say which points are kept; the classes are worked out in `classes`, the buoys that go with
+//! a string's vertices in `numbered`.
+use crate::calls::{BLANK, BLANK_BUOY, BLANK_BYTE, BLANK_NUMBER, Left, bits};
 use crate::classes::{self, Leg, legs};
 use crate::expected_edit as edit;
+use crate::numbered::{self, Vertex};
 use crate::random::Xyz;
-use crate::request::{Call, Request};
+use crate::request::{Call, Places, Request};
 use crate::table;
 use sphersgeo::arcstring::{ArcString, arc_crossings_with_arcstring, arcs_crossing, point_is_along_arcstring, points_are_on_same_side, xyzs_turn_orientations};
 use sphersgeo::geometry::GeometricRelationships;
@@ -15,8 +17,22 @@ use sphersgeo::sphericalpoint::MultiSphericalPoint;
 #[derive(Default)]
 pub struct Answer {
     pub floats: Vec<f64>,
+    pub buoys: Vec<u32>,
     pub bytes: Vec<u8>,
     pub numbers: Vec<u64>,
+}
+
+impl Answer {
+    /// how long each buffer of a call has to be for it
+    pub fn needed(&self, call: Call) -> Places {
+        let fixed = call.fixed();
+        call.buffers(Places {
+            floats: self.floats.len().saturating_sub(fixed.floats),
+            buoys: self.buoys.len(),
+            bytes: self.bytes.len().saturating_sub(fixed.bytes),
+            numbers: self.numbers.len().saturating_sub(fixed.numbers),
+        })
+    }
 }
 
 /// an answer, or the number of a refusal
@@ -34,19 +50,23 @@ pub fn result(r: &Request) -> Expected {
 
 /// What every place is to hold: 7 where the answer is longer than a buffer, blanks wherever nothing is written.
 pub fn left(r: &Request, expected: &Expected) -> Left {
-    let (places, fixed, lent) = (r.places(), r.call.fixed(), r.call.lent());
-    let mut left = Left { number: 0, floats: bits(&vec![BLANK; places.floats]), bytes: vec![BLANK_BYTE; places.bytes], numbers: vec![BLANK_NUMBER; places.numbers] };
+    let places = r.places();
+    let mut left = Left {
+        number: 0,
+        floats: bits(&vec![BLANK; places.floats]),
+        buoys: vec![BLANK_BUOY; places.buoys],
+        bytes: vec![BLANK_BYTE; places.bytes],
+        numbers: vec![BLANK_NUMBER; places.numbers],
+    };
     let answer = match expected {
         Ok(answer) => answer,
         Err(number) => return Left { number: *number, ..left },
     };
-    let short = lent.0 && answer.floats.len() > r.room.floats
-        || lent.1 && answer.bytes.len() > fixed.bytes + r.room.bytes
-        || lent.2 && answer.numbers.len() > fixed.numbers + r.room.numbers;
-    if short {
+    if !answer.needed(r.call).fit(r.room) {
         return Left { number: 7, ..left };
     }
     left.floats[..answer.floats.len()].copy_from_slice(&bits(&answer.floats));
+    left.buoys[..answer.buoys.len()].copy_from_slice(&answer.buoys);
     left.bytes[..answer.bytes.len()].copy_from_slice(&answer.bytes);
     left.numbers[..answer.numbers.len()].copy_from_slice(&answer.numbers);
     left
@@ -82,20 +102,24 @@ pub fn vertices(points: &[Xyz]) -> Answer {
     Answer { floats: flat(points), numbers: vec![points.len() as u64], ..Answer::default() }
 }
 
+pub fn string(v: &[Vertex]) -> Answer {
+    Answer { buoys: v.iter().map(|v| v.1).collect(), ..vertices(&numbered::xyzs(v)) }
+}
+
 // ---- what the published Rust gives for accepted lists
 
 fn accepted(r: &Request) -> Answer {
     let [a, _, b, _] = &r.lists;
     let (closed, [from, to]) = (r.flags[0] != 0, r.at);
-    let p = triples(a);
+    let (p, v) = (triples(a), || numbered::vertices(a, &r.buoys[0]));
     match r.call {
         Call::XyzEq => verdict(published::xyz_eq(&p[0], &p[1])),
         Call::XyzsCoplanar => verdict(published::xyzs_coplanar(&p[0], &p[1], &p[2])),
         Call::Point => Answer { floats: published::SphericalPoint::from(p[0]).xyz.to_vec(), ..Answer::default() },
-        Call::Build => build(p, None),
-        Call::BuildFlagged => build(p, Some(closed)),
-        Call::WalkBack => vertices(&p.iter().rev().copied().collect::<Vec<Xyz>>()),
-        Call::Restart => restarted(p, closed, from),
+        Call::Build => build(&v(), None),
+        Call::BuildFlagged => build(&v(), Some(closed)),
+        Call::WalkBack => string(&v().into_iter().rev().collect::<Vec<Vertex>>()),
+        Call::Restart => restarted(v(), closed, from),
         Call::Run => run(a, from, to),
         Call::Pair => pair((p[0], p[1]), (triples(b)[0], triples(b)[1])),
         Call::TurnOrientations => {
@@ -124,17 +148,17 @@ fn of_strings(r: &Request, p: &[Xyz]) -> Answer {
     }
 }
 
-fn build(points: Vec<Xyz>, flag: Option<bool>) -> Answer {
-    let s = ArcString::try_new(MultiSphericalPoint::try_from(points).unwrap(), flag).unwrap();
-    let bytes = if flag.is_none() { vec![s.closed as u8] } else { vec![] };
-    Answer { bytes, ..vertices(&s.points.xyzs) }
+fn build(points: &[Vertex], flag: Option<bool>) -> Answer {
+    let (v, closed) = numbered::build(points, flag);
+    let bytes = if flag.is_none() { vec![closed as u8] } else { vec![] };
+    Answer { bytes, ..string(&v) }
 }
 
-fn restarted(mut points: Vec<Xyz>, closed: bool, at: usize) -> Answer {
-    if closed && at < points.len() {
-        points.rotate_left(at);
+fn restarted(mut v: Vec<Vertex>, closed: bool, at: usize) -> Answer {
+    if closed && at < v.len() {
+        v.rotate_left(at);
     }
-    vertices(&points)
+    string(&v)
 }
 
 fn run(v: &[f64], from: usize, to: usize) -> Answer {
@@ -156,7 +180,7 @@ fn listed(kept: &[Xyz], pairs: impl Iterator<Item = (Leg, Leg)>) -> Answer {
     assert_eq!(marks.len(), kept.len(), "the classes keep as many points as the published listing");
     let mut numbers = vec![kept.len() as u64];
     numbers.extend(counts);
-    Answer { floats: flat(kept), bytes: marks, numbers }
+    Answer { floats: flat(kept), bytes: marks, numbers, ..Answer::default() }
 }
 
 fn listing(first: &[Leg], t: &ArcString) -> Answer {

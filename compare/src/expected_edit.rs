@@ -1,7 +1,10 @@
 //! What simplify, insert_vertices, the splits, equals and overlaps are to answer for accepted lists: the published Rust's results, its
 //! panics as document 01's 5 and 6, and the 3 of a result, which the published Rust does not have: the points are given a few more at
-//! a time, and the first result over 1,024 points ends it, since no cut and no insertion makes a result shorter.
-use crate::expected::{Answer, Expected, both, flat, stored, triples, verdict, vertices};
+//! a time, and the first result over 1,024 points ends it, since no cut and no insertion makes a result shorter. The buoys come with the
+//! vertices of `numbered`, which must be the published ones.
+use crate::calls::bits;
+use crate::expected::{Answer, Expected, both, flat, stored, string, triples, verdict};
+use crate::numbered::{self, Numbered, Vertex};
 use crate::random::Xyz;
 use crate::request::{Call, Request};
 use sphersgeo::arcstring::{ArcString, split_arc_at_points, split_arcstring_at_points};
@@ -11,13 +14,13 @@ use std::cell::Cell;
 use std::panic::{AssertUnwindSafe, catch_unwind, resume_unwind};
 
 pub fn accepted(r: &Request) -> Expected {
-    let [a, _, b, _] = &r.lists;
-    let closed = r.flags[0] != 0;
+    let ([a, _, b, _], closed) = (&r.lists, r.flags[0] != 0);
+    let (v, points) = (|| numbered::vertices(a, &r.buoys[0]), || numbered::vertices(b, &r.buoys[1]));
     match r.call {
-        Call::Simplify => simplify(a, closed),
-        Call::InsertVertices => insert_vertices(a, closed, b),
+        Call::Simplify => simplify(a, closed, v()),
+        Call::InsertVertices => insert_vertices(a, closed, v(), &points()),
         Call::SplitLeg => split_leg(a, b),
-        Call::Split => split(a, closed, b),
+        Call::Split => split(a, (v(), closed), &points()),
         Call::Equals => published(|| both(r).0.equals(&both(r).1)).map(verdict),
         _ => published(|| both(r).0.overlaps(&both(r).1)).map(verdict),
     }
@@ -58,23 +61,30 @@ fn published<T>(call: impl FnOnce() -> T) -> Result<T, u32> {
 
 // ---- simplify and insert
 
-fn simplify(v: &[f64], closed: bool) -> Expected {
-    published(|| {
-        let mut s = stored(v, v, closed);
-        s.simplify();
-        vertices(&s.points.xyzs)
-    })
+/// the vertices with their buoys, which must be the published ones
+fn carried(v: &[Vertex], published: &[Xyz]) -> Answer {
+    let answer = string(v);
+    assert_eq!(bits(&answer.floats), bits(&flat(published)), "the vertices that carry buoys are the published ones");
+    answer
 }
 
-fn insert_vertices(v: &[f64], closed: bool, extra: &[f64]) -> Expected {
-    let mut s = stored(v, v, closed);
-    for xyz in triples(extra) {
-        s.insert_vertices(&vec![&SphericalPoint { xyz }]);
+fn simplify(a: &[f64], closed: bool, mut v: Vec<Vertex>) -> Expected {
+    let mut s = stored(a, a, closed);
+    published(|| s.simplify())?;
+    numbered::simplify(&mut v, closed);
+    Ok(carried(&v, &s.points.xyzs))
+}
+
+fn insert_vertices(a: &[f64], closed: bool, mut v: Vec<Vertex>, points: &[Vertex]) -> Expected {
+    let mut s = stored(a, a, closed);
+    for point in points {
+        s.insert_vertices(&vec![&SphericalPoint { xyz: point.0 }]);
         if s.points.xyzs.len() > 1024 {
             return Err(3);
         }
+        numbered::insert(&mut v, closed, *point);
     }
-    Ok(vertices(&s.points.xyzs))
+    Ok(carried(&v, &s.points.xyzs))
 }
 
 // ---- splits
@@ -109,17 +119,18 @@ fn split_leg(leg: &[f64], extra: &[f64]) -> Expected {
     Ok(Answer { floats, numbers: vec![legs.len() as u64], ..Answer::default() })
 }
 
-fn split(v: &[f64], closed: bool, extra: &[f64]) -> Expected {
-    let split = |points: &[Xyz]| split_arcstring_at_points(&stored(v, v, closed), points.iter().collect()).arcstrings;
-    let strings: Vec<ArcString> = pieces(&triples(extra), 1, split, |s| s.points.xyzs.len())?;
+fn split(a: &[f64], string: Numbered, points: &[Vertex]) -> Expected {
+    let split = |points: &[Xyz]| split_arcstring_at_points(&stored(a, a, string.1), points.iter().collect()).arcstrings;
+    let strings: Vec<ArcString> = pieces(&numbered::xyzs(points), 1, split, |s| s.points.xyzs.len())?;
     if strings.len() == 1 {
         return Ok(uncut());
     }
-    let mut numbers = vec![strings.len() as u64];
-    numbers.extend(strings.iter().map(|s| s.points.xyzs.len() as u64));
-    Ok(Answer {
-        floats: strings.iter().flat_map(|s| flat(&s.points.xyzs)).collect(),
-        bytes: strings.iter().map(|s| s.closed as u8).collect(),
-        numbers,
-    })
+    let shape: Vec<(usize, bool)> = strings.iter().map(|s| (s.points.xyzs.len(), s.closed)).collect();
+    let carrying = numbered::split(string, points);
+    assert_eq!(carrying.iter().map(|s| (s.0.len(), s.1)).collect::<Vec<_>>(), shape, "the pieces that carry buoys are the published ones");
+    let vertices: Vec<Vertex> = carrying.into_iter().flat_map(|s| s.0).collect();
+    let xyzs: Vec<Xyz> = strings.into_iter().flat_map(|s| s.points.xyzs).collect();
+    let mut numbers = vec![shape.len() as u64];
+    numbers.extend(shape.iter().map(|s| s.0 as u64));
+    Ok(Answer { bytes: shape.iter().map(|s| s.1 as u8).collect(), numbers, ..carried(&vertices, &xyzs) })
 }

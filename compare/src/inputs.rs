@@ -1,5 +1,5 @@
-//! Random lists, flags, positions and buffers: strings of every length around each boundary, damaged ones, courses with points along
-//! their legs, near lists that differ, and rooms around the length of the answer.
+//! Random lists, flags, positions, buoys and buffers: strings of every length around each boundary, damaged ones, courses with points
+//! along their legs, near lists that differ, buoys that are not as many as points, and rooms around the length of the answer.
 use crate::expected::{Expected, flat, triples};
 use crate::random::{Points, Xyz, clamp};
 use crate::request::{Places, Request};
@@ -98,15 +98,41 @@ impl Inputs {
         if self.one_in(16) { usize::MAX - at } else { at }
     }
 
-    /// the request with room around the length of its answer
+    /// the request with other buoys, each list one time in so many: all zero, all the same, one fewer or more than points, none, some,
+    /// several more, as many as floats; every second long list is all the same, so that some lines with it are short enough to be stored
+    pub fn renumbered(&mut self, mut r: Request, one_in: u64) -> Request {
+        for k in 0..r.call.buoy_lists() {
+            let (buoys, n) = (&mut r.buoys[k], r.lists[2 * k].len() / 3);
+            let number = self.points.random.bits() as u32;
+            if n > 1000 && self.one_in(2) {
+                buoys.fill(number);
+            }
+            if self.one_in(one_in) {
+                match self.below(8) {
+                    0 => buoys.fill(0),
+                    1 => buoys.fill(number),
+                    2 => buoys.resize(n.saturating_sub(1), number),
+                    3 => buoys.resize(n + 1, number),
+                    4 => buoys.clear(),
+                    5 => buoys.truncate(self.below(n as u64 + 1) as usize),
+                    6 => buoys.resize(n + 2 + self.below(6) as usize, number),
+                    _ => buoys.resize(r.lists[2 * k].len(), number),
+                }
+            }
+        }
+        r
+    }
+
+    /// the request with room around the length of its answer, one time in three just that
     pub fn roomed(&mut self, mut r: Request, expected: &Expected) -> Request {
-        let (fixed, lent) = (r.call.fixed(), r.call.lent());
-        let needed = match expected {
-            Ok(a) => Places { floats: a.floats.len(), bytes: a.bytes.len(), numbers: a.numbers.len().saturating_sub(fixed.numbers) },
-            Err(_) => Places { floats: 9, bytes: 3, numbers: 2 },
+        let needed = expected.as_ref().map_or(Places { floats: 9, buoys: 3, bytes: 3, numbers: 2 }, |answer| answer.needed(r.call));
+        let around = Places {
+            floats: self.room(needed.floats),
+            buoys: self.room(needed.buoys),
+            bytes: self.room(needed.bytes),
+            numbers: self.room(needed.numbers),
         };
-        let mut room = |lent: bool, n: usize| if lent { self.room(n) } else { 0 };
-        r.room = Places { floats: room(lent.0, needed.floats), bytes: room(lent.1, needed.bytes), numbers: room(lent.2, needed.numbers) };
+        r.room = r.call.buffers(if self.one_in(3) { needed } else { around });
         r
     }
 

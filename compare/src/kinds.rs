@@ -1,14 +1,22 @@
 //! Which branch of a call an answer took: the summary counts by these, and each is at most 48 bytes.
 use crate::calls::{BLANK, Left, bits};
-use crate::request::{Call, Request};
+use crate::expected::Expected;
+use crate::request::{Call, Places, Request};
 
-pub fn kind(r: &Request, left: &Left) -> String {
+pub fn kind(r: &Request, expected: &Expected, left: &Left) -> String {
     let name = r.call.name();
     match left.number {
         0 => format!("{name}{}", branch(r, left)),
         3 if r.lists.iter().all(|l| l.len() <= 3072) => format!("{name}: refusal 3 of a result"),
+        7 if buoys_alone_are_short(r, expected) => format!("{name}: refusal 7 of the buoys alone"),
+        10 if r.buoys[0].len() == r.lists[0].len() / 3 => format!("{name}: refusal 10 of the points"),
         n => format!("{name}: refusal {n}"),
     }
+}
+
+/// whether every other buffer is long enough
+fn buoys_alone_are_short(r: &Request, expected: &Expected) -> bool {
+    expected.as_ref().is_ok_and(|answer| Places { buoys: 0, ..answer.needed(r.call) }.fit(r.room))
 }
 
 fn branch(r: &Request, left: &Left) -> String {

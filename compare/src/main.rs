@@ -2,6 +2,8 @@
 //! they build with unit length.
 //! A line for each kind of case says how often it came; a difference prints its request and ends the run with 1.
 mod bench;
+mod bench_strings;
+mod buoys;
 mod calls;
 mod classes;
 mod edits;
@@ -12,6 +14,7 @@ mod found;
 mod inputs;
 mod kinds;
 mod narrow;
+mod numbered;
 mod random;
 mod request;
 mod roots;
@@ -35,7 +38,7 @@ use tally::Tally;
 type Work = fn(&mut Tally, u64);
 
 /// What can be compared, with the usual number of comparisons; the found and the small requests are as many as there are.
-const COMPARISONS: [(&str, u64, Work); 8] = [
+const COMPARISONS: [(&str, u64, Work); 9] = [
     ("found", 1, found::run),
     ("roots", 12_000_000, roots::run),
     ("vectors", 3_000_000, vectors::run),
@@ -43,6 +46,7 @@ const COMPARISONS: [(&str, u64, Work); 8] = [
     ("strings", 6_000_000, strings::run),
     ("narrow", 5_000_000, narrow::run),
     ("edits", 1_000_000, edits::run),
+    ("buoys", 3_000_000, buoys::run),
     ("unit", 40_000_000, unit::run),
 ];
 
@@ -84,11 +88,15 @@ fn requests(file: &str) -> bool {
     tally.different == 0
 }
 
+/// what a sample is taken from
+const SAMPLED: [(&str, u64, Work); 5] =
+    [("found", 1, found::run), ("edits", 60_000, edits::run), ("buoys", 200_000, buoys::run), ("strings", 200_000, strings::run), ("small", 1, small::run)];
+
 /// stores a sample of the found, the random and the small requests in a folder
 fn sample(folder: &str) -> bool {
     let mut sample = Sample::default();
     let mut same = true;
-    for (name, n, work) in [("found", 1, found::run as Work), ("edits", 60_000, edits::run), ("strings", 200_000, strings::run), ("small", 1, small::run)] {
+    for (name, n, work) in SAMPLED {
         let mut tally = Tally::new(name, Some(sample));
         work(&mut tally, n);
         same &= tally.different == 0;

@@ -148,7 +148,7 @@ fn listed(tally: &mut Tally, i: &mut Inputs, mut r: Request) {
     let (kept, pairs) = expected.as_ref().map_or((1, 2), |a| (a.bytes.len(), a.numbers[1..].iter().sum::<u64>() as usize));
     for (floats, bytes) in rooms(kept, pairs) {
         if pairs < 100_000 || i.one_in(3) {
-            r.room = Places { floats, bytes, numbers: 0 };
+            r.room = Places { floats, bytes, ..Places::default() };
             tally.request(&r, &expected);
         }
     }

@@ -1,6 +1,5 @@
 //! A request: one call of arcstring_c with everything that it is lent. As a line it is what crates/replay reads, so that a
 //! difference can be run again by either program.
-use std::fmt::Write;
 
 /// The calls, in the sequence of their numbers in a line.
 #[derive(Clone, Copy, Debug, PartialEq, Eq, PartialOrd, Ord)]
@@ -68,12 +67,20 @@ pub const CALLS: [(Call, &str); 28] = [
     (Contains, "contains"),
 ];
 
-/// How many elements of each kind a call is lent.
+/// How many elements of each kind a call is lent: buoys are the numbers that vertices carry, numbers are counts and positions.
 #[derive(Clone, Copy, Debug, Default, PartialEq, Eq)]
 pub struct Places {
     pub floats: usize,
+    pub buoys: usize,
     pub bytes: usize,
     pub numbers: usize,
+}
+
+impl Places {
+    /// whether there is room for as many of each kind
+    pub fn fit(self, room: Places) -> bool {
+        self.floats <= room.floats && self.buoys <= room.buoys && self.bytes <= room.bytes && self.numbers <= room.numbers
+    }
 }
 
 impl Call {
@@ -93,22 +100,34 @@ impl Call {
             Count => (0, 0, 4),
             _ => (0, 1, 0),
         };
-        Places { floats, bytes, numbers }
+        Places { floats, bytes, numbers, ..Places::default() }
     }
 
-    /// which kinds of buffer it is lent with a length
-    pub fn lent(self) -> (bool, bool, bool) {
+    /// of these places those of the kinds of buffer that it is lent with a length
+    pub fn buffers(self, places: Places) -> Places {
+        let (Places { floats, buoys, bytes, .. }, none) = (places, Places::default());
         match self {
-            Build | BuildFlagged | WalkBack | Restart | TurnOrientations | Midpoints | Simplify | InsertVertices | SplitLeg => (true, false, false),
-            LegCrossings | Crossings | CrossingsWithSelf => (true, true, false),
-            Split => (true, true, true),
-            _ => (false, false, false),
+            TurnOrientations | Midpoints | SplitLeg => Places { floats, ..none },
+            LegCrossings | Crossings | CrossingsWithSelf => Places { floats, bytes, ..none },
+            Build | BuildFlagged | WalkBack | Restart | Simplify | InsertVertices => Places { floats, buoys, ..none },
+            Split => places,
+            _ => none,
+        }
+    }
+
+    /// how many lists of buoys it is lent: that of the first list's vertices, and that of the points put in or cut at
+    pub fn buoy_lists(self) -> usize {
+        match self {
+            Build | BuildFlagged | WalkBack | Restart | Simplify => 1,
+            InsertVertices | Split => 2,
+            _ => 0,
         }
     }
 }
 
 /// A call, its flags, positions and lists, and the lengths of its buffers. The lists are: the first string's vertices (or points, or
-/// a leg by itself), its near list; the second string's vertices (or extra points), its near list.
+/// a leg by itself), its near list; the second string's vertices (or extra points), its near list. The buoys are those of the first
+/// and of the third list.
 #[derive(Clone, Debug)]
 pub struct Request {
     pub call: Call,
@@ -116,13 +135,16 @@ pub struct Request {
     pub at: [usize; 2],
     pub room: Places,
     pub lists: [Vec<f64>; 4],
+    pub buoys: [Vec<u32>; 2],
 }
 
 impl Request {
-    /// a call on the first lists given, open, with no buffers
+    /// a call on the first lists given, open, with no buffers, and with a buoy of its own for each vertex and point
     pub fn new(call: Call, lists: &[&[f64]]) -> Self {
         let list = |k: usize| lists.get(k).map_or(vec![], |l| l.to_vec());
-        Self { call, flags: [0, 0], at: [0, 0], room: Places::default(), lists: [list(0), list(1), list(2), list(3)] }
+        let lists = [list(0), list(1), list(2), list(3)];
+        let buoys = [0, 1].map(|k| if k < call.buoy_lists() { different(k as u32, lists[2 * k].len() / 3) } else { vec![] });
+        Self { call, flags: [0, 0], at: [0, 0], room: Places::default(), lists, buoys }
     }
 
     pub fn flags(mut self, a: u8, b: u8) -> Self {
@@ -135,25 +157,31 @@ impl Request {
         self
     }
 
+    /// with room for so many vertices, and for their buoys where the call is lent any
+    pub fn room_for(mut self, vertices: usize) -> Self {
+        self.room = self.call.buffers(Places { floats: 3 * vertices, buoys: vertices, ..Places::default() });
+        self
+    }
+
     /// all that the call is lent, fixed places and buffers
     pub fn places(&self) -> Places {
-        let fixed = self.call.fixed();
-        Places { floats: fixed.floats + self.room.floats, bytes: fixed.bytes + self.room.bytes, numbers: fixed.numbers + self.room.numbers }
+        let (fixed, room) = (self.call.fixed(), self.room);
+        Places {
+            floats: fixed.floats + room.floats,
+            buoys: fixed.buoys + room.buoys,
+            bytes: fixed.bytes + room.bytes,
+            numbers: fixed.numbers + room.numbers,
+        }
     }
 
     pub fn line(&self, label: &str) -> String {
-        let mut line = format!("{label:<48.48}");
-        let mut head = vec![self.call as u64, self.flags[0] as u64, self.flags[1] as u64, self.at[0] as u64, self.at[1] as u64];
-        head.extend([self.room.floats, self.room.bytes, self.room.numbers].map(|n| n as u64));
-        for list in &self.lists {
-            let bits: Vec<u64> = list.iter().map(|x| x.to_bits()).collect();
-            let period = period(&bits);
-            head.extend([bits.len() as u64, period as u64]);
-            head.extend(&bits[..period]);
-        }
-        let words: Vec<String> = head.iter().map(|w| format!("{w:016X}")).collect();
-        let _ = write!(line, "{}", words.join(" "));
-        line
+        let room = [self.room.floats, self.room.bytes, self.room.numbers, self.room.buoys];
+        let mut words = vec![self.call as u64, self.flags[0] as u64, self.flags[1] as u64, self.at[0] as u64, self.at[1] as u64];
+        words.extend(room.map(|n| n as u64));
+        self.lists.iter().for_each(|list| words.extend(listed(list.iter().map(|x| x.to_bits()).collect())));
+        self.buoys.iter().for_each(|list| words.extend(listed(list.iter().map(|n| *n as u64).collect())));
+        let words: Vec<String> = words.iter().map(|w| format!("{w:016X}")).collect();
+        format!("{label:<48.48}{}", words.join(" "))
     }
 
     /// the request of a line, if it is one
@@ -163,18 +191,33 @@ impl Request {
         let call = CALLS.get(next()? as usize)?.0;
         let flags = [next()? as u8, next()? as u8];
         let at = [next()? as usize, next()? as usize];
-        let room = Places { floats: next()? as usize, bytes: next()? as usize, numbers: next()? as usize };
+        let [floats, bytes, numbers, buoys] = [next()? as usize, next()? as usize, next()? as usize, next()? as usize];
+        let room = Places { floats, buoys, bytes, numbers };
         let mut lists: [Vec<f64>; 4] = Default::default();
         for list in &mut lists {
-            let (length, period) = (next()? as usize, next()? as usize);
-            let given = (0..period).map(|_| next().map(f64::from_bits)).collect::<Option<Vec<f64>>>()?;
-            *list = given.into_iter().cycle().take(length).collect();
+            *list = list_of(&mut next)?.into_iter().map(f64::from_bits).collect();
         }
-        Some(Self { call, flags, at, room, lists })
+        let mut buoys: [Vec<u32>; 2] = Default::default();
+        for list in &mut buoys {
+            *list = list_of(&mut next)?.into_iter().map(|n| u32::try_from(n).ok()).collect::<Option<Vec<u32>>>()?;
+        }
+        Some(Self { call, flags, at, room, lists, buoys })
     }
 }
 
-/// the shortest start that makes the whole list, over and over
-fn period(bits: &[u64]) -> usize {
-    (1..bits.len()).find(|p| bits[*p..] == bits[..bits.len() - p]).unwrap_or(bits.len())
+/// n numbers of all four bytes, different from each other and from those of the other list
+fn different(list: u32, n: usize) -> Vec<u32> {
+    (1..=n as u32).map(|k| (4096 * list + k).wrapping_mul(0x9E37_79B9)).collect()
+}
+
+/// a list as words: its length, how many of its elements are given, and these, which the list repeats to its length
+fn listed(list: Vec<u64>) -> Vec<u64> {
+    let period = (1..list.len()).find(|p| list[*p..] == list[..list.len() - p]).unwrap_or(list.len());
+    [&[list.len() as u64, period as u64], &list[..period]].concat()
+}
+
+fn list_of(next: &mut impl FnMut() -> Option<u64>) -> Option<Vec<u64>> {
+    let (length, period) = (next()? as usize, next()? as usize);
+    let given = (0..period).map(|_| next()).collect::<Option<Vec<u64>>>()?;
+    Some(given.into_iter().cycle().take(length).collect())
 }

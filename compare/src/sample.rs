@@ -20,7 +20,7 @@ impl Sample {
     pub fn offer(&mut self, kind: &str, r: &Request, answer: &Left) {
         let chosen = self.chosen.entry(kind.to_string()).or_default();
         let room = r.places();
-        if chosen.len() == EACH || room.floats.max(room.bytes).max(room.numbers) > ROOM {
+        if chosen.len() == EACH || room.floats.max(room.buoys).max(room.bytes).max(room.numbers) > ROOM {
             return;
         }
         let (request, answer) = (r.line(kind), answer.line(kind));

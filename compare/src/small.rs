@@ -27,10 +27,8 @@ fn lists_up_to(points: &[Xyz], least: usize, most: usize) -> Vec<Vec<f64>> {
 /// with buffers of exactly the answer's length
 pub fn send(tally: &mut Tally, mut r: Request) {
     let expected = expected::result(&r);
-    let (fixed, lent) = (r.call.fixed(), r.call.lent());
-    if let Ok(a) = &expected {
-        let numbers = a.numbers.len().saturating_sub(fixed.numbers);
-        r.room = Places { floats: lent.0 as usize * a.floats.len(), bytes: lent.1 as usize * a.bytes.len(), numbers: lent.2 as usize * numbers };
+    if let Ok(answer) = &expected {
+        r.room = answer.needed(r.call);
     }
     tally.request(&r, &expected);
 }
@@ -80,12 +78,24 @@ fn one_string(tally: &mut Tally) {
     }
 }
 
-/// a request with room for 0 to 30 floats, and for fewer bytes and numbers beside them
+/// a request with room for 0 to 30 floats, for as many buoys, for fewer and for more, and for fewer bytes and numbers beside them
 fn rooms(tally: &mut Tally, mut r: Request) {
-    let (expected, lent) = (expected::result(&r), r.call.lent());
+    let expected = expected::result(&r);
     for room in 0..=30 {
-        r.room = Places { floats: lent.0 as usize * room, bytes: lent.1 as usize * (room / 3), numbers: lent.2 as usize * (room % 5) };
-        tally.request(&r, &expected);
+        for buoys in if r.call.buoy_lists() > 0 { vec![room / 4, room / 3, room / 2] } else { vec![0] } {
+            r.room = r.call.buffers(Places { floats: room, buoys, bytes: room / 3, numbers: room % 5 });
+            tally.request(&r, &expected);
+        }
+    }
+}
+
+/// a request with 0 to 8 buoys in each list of them that it is lent
+fn buoys(tally: &mut Tally, r: &Request) {
+    let lists = r.call.buoy_lists();
+    for n in 0..if lists > 0 { 9 } else { 0 } {
+        for m in 0..if lists > 1 { 9 } else { 1 } {
+            send(tally, Request { buoys: [(0..n).collect(), (100..100 + m).collect()], ..r.clone() });
+        }
     }
 }
 
@@ -98,11 +108,15 @@ fn lengths(tally: &mut Tally) {
             send(tally, Request::new(Call::Run, &[v]).at(at / 9, at % 9));
         }
         for call in ONE_STRING {
-            rooms(tally, Request::new(call, &[v]).flags(1, 0).at(1, 0));
+            let r = Request::new(call, &[v]).flags(1, 0).at(1, 0);
+            buoys(tally, &r);
+            rooms(tally, r);
         }
         for m in [0, 3, 4, 6, 9] {
             for call in [Call::Crossings, Call::InsertVertices, Call::Split] {
-                rooms(tally, Request::new(call, &[v, &[], &long[40 - m..]]).flags(1, 1));
+                let r = Request::new(call, &[v, &[], &long[40 - m..]]).flags(1, 1);
+                buoys(tally, &r);
+                rooms(tally, r);
             }
         }
         rooms(tally, Request::new(Call::SplitLeg, &[&long[..6], &[], &long[40 - n..]]));

@@ -2,11 +2,18 @@
 use crate::calls;
 use crate::expected::{self, flat, triples};
 use crate::inputs::Inputs;
+use crate::numbered::vertices;
 use crate::request::{Call, Places, Request};
 use crate::tally::Tally;
 
-/// compares a request, with room around its answer
+/// compares a request, with other buoys now and then, and with room around its answer
 pub fn send(tally: &mut Tally, i: &mut Inputs, r: Request) {
+    send_renumbered(tally, i, r, 8);
+}
+
+/// the same with each list of buoys another one time in so many
+pub fn send_renumbered(tally: &mut Tally, i: &mut Inputs, r: Request, one_in: u64) {
+    let r = i.renumbered(r, one_in);
     let expected = expected::result(&r);
     let r = i.roomed(r, &expected);
     tally.request(&r, &expected);
@@ -78,11 +85,11 @@ fn shared(a: &[f64], i: &mut Inputs) -> Vec<f64> {
     flat(&points)
 }
 
-/// The counts and the clean points, by value and without their sequence; none where the call refuses.
-fn counts_and_clean_points(a: &[f64], fa: u8, b: &[f64], fb: u8) -> Option<(Vec<u64>, Vec<[u64; 3]>)> {
-    let mut r = Request::new(Call::Crossings, &[a, &[], b]).flags(fa, fb);
-    let pairs = a.len() * b.len() / 9;
-    r.room = Places { floats: 3 * pairs, bytes: pairs, numbers: 0 };
+/// The counts and the clean points of two held strings, by value and without their sequence; none where the call refuses.
+fn counts_and_clean_points([a, b]: &[Request; 2]) -> Option<(Vec<u64>, Vec<[u64; 3]>)> {
+    let mut r = crossed(a, b);
+    let pairs = r.lists[0].len() * r.lists[2].len() / 9;
+    r.room = Places { floats: 3 * pairs, bytes: pairs, ..Places::default() };
     let left = calls::answer(&r);
     let kept = left.numbers[0] as usize;
     let by_value = |bits: u64| if bits << 1 == 0 { 0 } else { bits };
@@ -95,32 +102,47 @@ fn counts_and_clean_points(a: &[f64], fa: u8, b: &[f64], fb: u8) -> Option<(Vec<
     (left.number == 0).then_some((left.numbers[1..].to_vec(), clean))
 }
 
-/// The counts and the clean points after a random list of changes are those before it, refused changes among them.
+fn crossed(a: &Request, b: &Request) -> Request {
+    Request::new(Call::Crossings, &[&a.lists[0], &[], &b.lists[0]]).flags(a.flags[0], b.flags[0])
+}
+
+/// the vertices of two held strings by their bits, each with its buoy, without their sequence
+fn carried(held: &[Request; 2]) -> Vec<([u64; 3], u32)> {
+    let mut all: Vec<([u64; 3], u32)> =
+        held.iter().flat_map(|r| vertices(&r.lists[0], &r.buoys[0])).map(|(xyz, buoy)| (xyz.map(f64::to_bits), buoy)).collect();
+    all.sort();
+    all
+}
+
+/// The counts and the clean points after a random list of changes are those before it, refused changes among them, and every vertex has
+/// kept its buoy. A string is held as the request of its change.
 fn changes(tally: &mut Tally, i: &mut Inputs) {
-    let (mut a, mut b) = (i.string(), i.string());
-    let (mut fa, mut fb) = (i.flag(), i.flag());
-    if a.len() * b.len() > 90_000 {
+    let mut held = [0, 1].map(|_| Request::new(Call::WalkBack, &[&i.string()]).flags(i.flag(), 0));
+    if held[0].lists[0].len() * held[1].lists[0].len() > 90_000 {
         return;
     }
-    let before = counts_and_clean_points(&a, fa, &b, fb);
+    let before = (counts_and_clean_points(&held), carried(&held));
     for _ in 0..i.below(6) {
-        let call = i.points.random.of(&[None, Some(Call::WalkBack), Some(Call::Restart)]);
-        let Some(call) = call else {
-            std::mem::swap(&mut a, &mut b);
-            std::mem::swap(&mut fa, &mut fb);
+        let Some(call) = i.points.random.of(&[None, Some(Call::WalkBack), Some(Call::Restart)]) else {
+            held.swap(0, 1);
             continue;
         };
-        let at = i.position(a.len() / 3);
-        let r = Request::new(call, &[&a]).flags(fa, 0).at(at, 0);
-        let r = i.roomed(r.clone(), &expected::result(&r));
-        let left = calls::answer(&r);
+        let at = i.position(held[0].lists[0].len() / 3);
+        let mut change = Request { call, ..held[0].clone() }.at(at, 0);
+        if i.one_in(16) {
+            change.buoys[0].pop();
+        }
+        let change = i.roomed(change.clone(), &expected::result(&change));
+        let left = calls::answer(&change);
         if left.number == 0 {
-            a = left.floats[..a.len()].iter().map(|x| f64::from_bits(*x)).collect();
+            let (floats, buoys) = (change.lists[0].len(), change.buoys[0].len());
+            held[0].lists[0] = left.floats[..floats].iter().map(|x| f64::from_bits(*x)).collect();
+            held[0].buoys[0] = left.buoys[..buoys].to_vec();
         }
     }
-    let after = counts_and_clean_points(&a, fa, &b, fb);
-    if before.is_some() {
-        tally.compare("counts and clean points after changes", before == after, || Request::new(Call::Crossings, &[&a, &[], &b]).flags(fa, fb).line("after changes"));
+    if before.0.is_some() {
+        let same = before == (counts_and_clean_points(&held), carried(&held));
+        tally.compare("counts and clean points after changes", same, || crossed(&held[0], &held[1]).line("after changes"));
     }
 }
 

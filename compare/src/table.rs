@@ -1,5 +1,5 @@
-//! Document 01's table of refusals, read independently of the proved library: the list checks of each call, in number order within
-//! a list, and the lists in the sequence that it gives.
+//! Document 01's table of refusals with document 02's 10, read independently of the proved library: the list checks of each call, in number
+//! order within a list but for 10, which comes right after 1, and the lists in the sequence that it gives.
 use crate::request::{Call, Request};
 
 const MOST: usize = 3 * 1024;
@@ -21,36 +21,52 @@ fn single(list: &[f64]) -> u32 {
     first(&[(outside(list), 4)])
 }
 
+/// a list of points: not whole triples, or empty where it may not be; the buoys lent for it, if any, not as many; too few points; too
+/// many; a coordinate out of range
+fn points(v: &[f64], empty: bool, buoys: Option<&[u32]>, few: bool) -> u32 {
+    let unlike = buoys.is_some_and(|b| b.len() != v.len() / 3);
+    first(&[(v.len() % 3 != 0 || empty, 1), (unlike, 10), (few, 2), (v.len() > MOST, 3), (outside(v), 4)])
+}
+
 fn stored(v: &[f64]) -> u32 {
-    first(&[(v.len() % 3 != 0 || v.is_empty(), 1), (v.len() > MOST, 3), (outside(v), 4)])
+    points(v, v.is_empty(), None, false)
+}
+
+fn stored_with(v: &[f64], buoys: &[u32]) -> u32 {
+    points(v, v.is_empty(), Some(buoys), false)
 }
 
 fn extra(list: &[f64]) -> u32 {
-    first(&[(list.len() % 3 != 0, 1), (list.len() > MOST, 3), (outside(list), 4)])
+    points(list, false, None, false)
 }
 
-fn to_build(v: &[f64]) -> u32 {
-    first(&[(v.len() % 3 != 0, 1), (v.len() < 6, 2), (v.len() > MOST, 3), (outside(v), 4)])
+fn extra_with(list: &[f64], buoys: &[u32]) -> u32 {
+    points(list, false, Some(buoys), false)
+}
+
+fn to_build(v: &[f64], buoys: &[u32]) -> u32 {
+    points(v, false, Some(buoys), v.len() < 6)
 }
 
 fn to_halve(v: &[f64], closed: bool) -> u32 {
-    first(&[(v.len() % 3 != 0 || v.is_empty(), 1), (!closed && v.len() == 3, 2), (v.len() > MOST, 3), (outside(v), 4)])
+    points(v, v.is_empty(), None, !closed && v.len() == 3)
 }
 
 /// the number of the first check that refuses, 0 where none does
 pub fn refusal(r: &Request) -> u32 {
-    let [a, a_near, b, b_near] = &r.lists;
+    let ([a, a_near, b, b_near], [a_buoys, b_buoys]) = (&r.lists, &r.buoys);
     match r.call {
         Call::XyzEq | Call::XyzsCoplanar | Call::Point => single(a),
         Call::Pair => in_turn(&[single(a), single(b)]),
-        Call::Build | Call::BuildFlagged => to_build(a),
-        Call::WalkBack | Call::Restart | Call::CrossingsWithSelf | Call::CrossesSelf | Call::TurnOrientations | Call::Simplify => stored(a),
+        Call::Build | Call::BuildFlagged => to_build(a, a_buoys),
+        Call::WalkBack | Call::Restart | Call::Simplify => stored_with(a, a_buoys),
+        Call::CrossingsWithSelf | Call::CrossesSelf | Call::TurnOrientations => stored(a),
         Call::Run => 0,
         Call::LegCrossings | Call::SameSide => in_turn(&[single(a), stored(b)]),
         Call::Crossings | Call::Count => in_turn(&[stored(a), stored(b)]),
         Call::Midpoints => to_halve(a, r.flags[0] != 0),
         Call::Along => in_turn(&[stored(b), stored(b_near), single(a)]),
-        Call::InsertVertices | Call::Split => in_turn(&[stored(a), extra(b)]),
+        Call::InsertVertices | Call::Split => in_turn(&[stored_with(a, a_buoys), extra_with(b, b_buoys)]),
         Call::SplitLeg => in_turn(&[single(a), extra(b)]),
         Call::Eq | Call::Equals | Call::Crosses | Call::Overlaps => in_turn(&[stored(a), stored(a_near), stored(b), stored(b_near)]),
         Call::Within => in_turn(&[stored(a), stored(b), stored(b_near)]),

@@ -66,7 +66,7 @@ impl Tally {
     /// a request's answer beside what is expected of it
     pub fn request(&mut self, r: &Request, expected: &Expected) {
         let (ours, theirs) = (calls::answer(r), expected::left(r, expected));
-        let kind = kind(r, &theirs);
+        let kind = kind(r, expected, &theirs);
         self.compare(&kind, ours == theirs, || format!("{}\nours\n{}\nexpected\n{}", r.line(&kind), ours.line(&kind), theirs.line(&kind)));
         if let Some(sample) = &mut self.sample {
             sample.offer(&kind, r, &theirs);

@@ -29,13 +29,11 @@ fn built(tally: &mut Tally, points: &[Xyz], twice: bool) -> Vec<Xyz> {
     let first = points[0];
     let far = [if first[0] < 0.0 { 1.0 } else { -1.0 }, 0.0, 0.0];
     let list = [flat(points), flat(&[if twice { first } else { far }])].concat();
-    let mut build = Request::new(Call::Build, &[&list]);
-    build.room.floats = list.len();
+    let build = Request::new(Call::Build, &[&list]).room_for(list.len() / 3);
     let left = calls::answer(&build);
     let floats: Vec<f64> = left.floats.iter().map(|b| f64::from_bits(*b)).collect();
     let count = points.len() + !twice as usize;
-    let mut back = Request::new(Call::WalkBack, &[&floats[..3 * count]]);
-    back.room.floats = 3 * count;
+    let back = Request::new(Call::WalkBack, &[&floats[..3 * count]]).room_for(count);
     let same = left.number == 0 && left.numbers == [count as u64] && left.bytes == [twice as u8] && calls::answer(&back).number == 0;
     let kind = if twice { "list: closed" } else { "list: open" };
     tally.compare(kind, same, || build.line(kind));

@@ -3,11 +3,12 @@ use mathlib.Core.Path.{_≡_, refl, sym, ap, _∙_}
 use Prim.Native.Nat.{ℕ, zero, suc}
 use native.Mathlib.Omega.{arith}
 use Rattle.arcstring.specs.declared.check.Refusal.{Refusal}
-use Rattle.arcstring.specs.declared.check.Refusal.the-variants.{NotTriples, TooFewPoints, TooManyPoints, OutOfRange, RemovesPastEnd, ReadsPastEnd, NoRoom}
+use Rattle.arcstring.specs.declared.check.Refusal.the-variants.{NotTriples, TooFewPoints, TooManyPoints, OutOfRange}
+use Rattle.arcstring.specs.declared.check.Refusal.the-variants.{RemovesPastEnd, ReadsPastEnd, NoRoom, BuoysNotAsMany}
 use Rattle.arcstring.specs.declared.check.Checked.{Checked}
 use Rattle.arcstring.specs.declared.check.Checked.the-variants.{Accepted, Refused}
 use Rattle.arcstring.specs.Check.{checkNumber}
-use Rattle.arcstring.specs.Answer.{Answer, refused, answered, unlessRefused, andThen, firstOf, refusalNumber}
+use Rattle.arcstring.specs.Answer.{Answer, refused, answered, unlessRefused, mapAnswer, andThen, firstOf, refusalNumber}
 
 at-refusal : {A : Type 0} (e : Refusal) (x : Answer A) → refused (refusalNumber e) ≡ unlessRefused (refusalNumber e) x
 at-refusal NotTriples x = refl
@@ -17,12 +18,18 @@ at-refusal OutOfRange x = refl
 at-refusal RemovesPastEnd x = refl
 at-refusal ReadsPastEnd x = refl
 at-refusal NoRoom x = refl
+at-refusal BuoysNotAsMany x = refl
 
 pub refuse : {A : Type 0} (e : Refusal) (n : ℕ) (x : Answer A) → n ≡ refusalNumber e → refused (refusalNumber e) ≡ unlessRefused n x
 refuse e n x h = at-refusal e x ∙ sym (ap (λ (m : ℕ). unlessRefused m x) h)
 
 pub pass : {A : Type 0} (n : ℕ) (x : Answer A) → n ≡ 0 → unlessRefused n x ≡ x
 pass n x h = ap (λ (m : ℕ). unlessRefused m x) h
+
+-- where a check passes is all that matters of what follows it
+pub where-passed : {A : Type 0} (n : ℕ) (x y : Answer A) → (n ≡ 0 → x ≡ y) → unlessRefused n x ≡ unlessRefused n y
+where-passed zero x y h = h refl
+where-passed (suc n) x y h = refl
 
 -- two checks, one after the other, are the first of the two that refuses
 pub in-turn : {A : Type 0} (m n : ℕ) (x : Answer A) → unlessRefused (firstOf m n) x ≡ unlessRefused m (unlessRefused n x)
@@ -44,6 +51,10 @@ pub second-passes : (m n : ℕ) → firstOf m n ≡ 0 → n ≡ 0
 second-passes zero n h = h
 second-passes (suc m) n h = absurd (let z : suc m ≡ 0 = h in omega arith)
 
+pub first-alone : (m : ℕ) → firstOf m 0 ≡ m
+first-alone zero = refl
+first-alone (suc m) = refl
+
 -- and both pass where something is answered
 pub both-passed : {A : Type 0} (m n : ℕ) (x y : A) → unlessRefused m (unlessRefused n (answered x)) ≡ answered y → (m ≡ 0) × (n ≡ 0) × (x ≡ y)
 both-passed zero zero x y h = (refl, refl, cc)
@@ -58,6 +69,7 @@ refusal-first OutOfRange n = refl
 refusal-first RemovesPastEnd n = refl
 refusal-first ReadsPastEnd n = refl
 refusal-first NoRoom n = refl
+refusal-first BuoysNotAsMany n = refl
 
 -- ---- the same, for code that took a check's answer apart
 
@@ -121,3 +133,20 @@ module _ {A B : Type 0} (a : Answer A) (f : A → Answer B) where
 
   pub then-answered : (x : A) → a ≡ answered x → andThen a f ≡ f x
   then-answered x h = ap (λ (y : Answer A). andThen y f) h
+
+pub then-same : {A B : Type 0} (a : Answer A) (f g : A → Answer B) → ((x : A) → f x ≡ g x) → andThen a f ≡ andThen a g
+then-same (refused n) f g same = refl
+then-same (answered x) f g same = same x
+
+-- ---- an answer's values changed, after a check and before what follows
+
+module _ {A B : Type 0} (f : A → B) where
+  pub map-unless : (n : ℕ) (a : Answer A) → mapAnswer f (unlessRefused n a) ≡ unlessRefused n (mapAnswer f a)
+  map-unless zero a = refl
+  map-unless (suc n) a = refl
+
+  -- steps that go over into one another by f do so in turn
+  pub map-then : (a : Answer A) (g : A → Answer A) (h : B → Answer B) → ((x : A) → mapAnswer f (g x) ≡ h (f x))
+      → mapAnswer f (andThen a g) ≡ andThen (mapAnswer f a) h
+  map-then (refused n) g h same = refl
+  map-then (answered x) g h same = same x

@@ -1,30 +1,34 @@
 -- Laws of building: the ends of a string, its vertices and how many there are, and what is written, from the checks. Assumes nothing.
-use mathlib.Core.Path.{_≡_, refl, sym, ap, _∙_}
-use mathlib.Core.Bool.{Bool, true, false}
+use mathlib.Core.Path.{_≡_, refl, sym, ap, ap₂, _∙_}
+use mathlib.Core.Bool.{Bool, true, false, _||_}
 use mathlib.Core.List.{List, [], _∷_, _++_, map}
 use Prim.Native.Nat.{ℕ, zero, suc, _-_, _*_, _/_, _≤_, _<_}
 use native.Mathlib.Omega.{arith}
 use lib.ListN.{length, getD, take, drop, length-map}
 use lib.Seq.{length-take-le, take-all, getD-take}
+use lib.Dec.{ltb}
 use lib.Ieee.{Float}
 use Rattle.sphericalpoint.specs.declared.SphericalPoint.{SphericalPoint}
 use Rattle.sphericalpoint.specs.Vector.{xyzEq}
 use Rattle.sphericalpoint.specs.Point.{normalizedUnlessShort}
 use Rattle.arcstring.specs.declared.check.Refusal.{Refusal}
-use Rattle.arcstring.specs.declared.check.Refusal.the-variants.{NoRoom}
 use Rattle.arcstring.specs.declared.check.Checked.{Checked}
 use Rattle.arcstring.specs.declared.check.Checked.the-variants.{Accepted, Refused}
 use Rattle.arcstring.specs.Answer.{Answer, refused, answered, unlessRefused, mapAnswer, leaves, pick, refusalNumber}
-use Rattle.arcstring.specs.Check.{checkNumber, buildCheck, roomCheck}
-use Rattle.arcstring.specs.Points.{ArcString, points, flat, pointAt, noPoint}
+use Rattle.arcstring.specs.Check.{checkNumber, buildCheck, buildingCheck, roomsCheck}
+use Rattle.arcstring.specs.declared.vertex.Vertex.{Vertex}
+use Rattle.arcstring.specs.Points.{StringOf, numbered, placeOf, placesOf, buoysOf, points, flat, pointAt, noPoint}
 use Rattle.arcstring.specs.Splice.{splice}
-use Rattle.arcstring.specs.Build.{normalizedAll, endsMeet, builtVertices, builtString, buildInto, build, buildFlagged, flagged, builtResult, builtFloats}
-use Rattle.arcstring.proofs.Flat.{point-at, length-points, points-flat, take-points, length-flat}
-use Rattle.arcstring.proofs.Answers.{refuse, pass, answer-refused, answer-accepted}
-use Rattle.arcstring.proofs.Checks.{build-whole, build-two}
-use Rattle.arcstring.proofs.Rooms.{no-room, room-enough}
+use Rattle.arcstring.specs.Build.{normalizedAll, endsMeet, builtVertices, builtString, builtNumbered, buildInto, build, buildFlagged}
+use Rattle.arcstring.specs.Build.{flagged, builtResult, builtFloats, builtBuoys}
+use Rattle.arcstring.proofs.Flat.{point-at, length-points, count-points, points-flat, take-points, length-flat}
+use Rattle.arcstring.proofs.Answers.{answer-refused, answer-accepted}
+use Rattle.arcstring.proofs.Checks.{build-whole, build-two, building-passed, building-buoys}
+use Rattle.arcstring.proofs.Written.{rooms-short, rooms-fit}
 use Rattle.arcstring.proofs.Splices.{splice-front}
 use Rattle.arcstring.proofs.Moves.{length-mapped, map-written}
+use Rattle.arcstring.proofs.Numbered.{all-places, all-buoys}
+use Rattle.arcstring.proofs.BuildsWithout.{built-places, built-count-same, built-buoys}
 
 mapped-at : (f : SphericalPoint → SphericalPoint) (ps : List SphericalPoint) (k : ℕ) (d : SphericalPoint) → k < length ps → getD (map f ps) k d ≡ f (getD ps k d)
 mapped-at f [] k d h = absurd (omega arith)
@@ -141,71 +145,149 @@ pub closed-flag : (ps : List SphericalPoint) → endsMeet (normalizedAll ps) ≡
 unfolding builtString
 closed-flag ps = refl
 
--- ---- what a build answers, and the buffer
+-- ---- what a build answers, and the buffers
 
-module _ (k : Checked) (s : ArcString) (v old : List Float) (number : checkNumber k ≡ buildCheck v) where
-  -- the answer, and the buffer after it, are those of the definition
-  abbrev Builds : Answer (ℕ × Bool) → List Float → Type 0
-  Builds r out = (r ≡ builtResult (buildInto s v (length old))) × (out ≡ leaves (builtFloats (buildInto s v (length old))) old)
+module _ (k : Checked) (s : StringOf Vertex) (v : List Float) (buoys : List ℕ) (old : List Float) (oldBuoys : List ℕ)
+    (number : checkNumber k ≡ buildingCheck v buoys) where
+  abbrev into : Answer (StringOf Vertex)
+  into = buildInto v buoys (length old) (length oldBuoys) s
 
-  by-answer : (a : Answer ArcString) → a ≡ buildInto s v (length old) → Builds (builtResult a) (leaves (builtFloats a) old)
-  by-answer a r = (ap builtResult r, ap (λ (b : Answer ArcString). leaves (builtFloats b) old) r)
+  -- the answer, and the buffers after it, are those of the definition
+  abbrev Builds : Answer (ℕ × Bool) → List Float → List ℕ → Type 0
+  Builds r out outBuoys = (r ≡ builtResult into) × ((out ≡ leaves (builtFloats into) old) × (outBuoys ≡ leaves (builtBuoys into) oldBuoys))
 
-  pub refused-build : (e : Refusal) → k ≡ Refused e → Builds (refused (refusalNumber e)) old
+  by-answer : (a : Answer (StringOf Vertex)) → a ≡ into → Builds (builtResult a) (leaves (builtFloats a) old) (leaves (builtBuoys a) oldBuoys)
+  by-answer a r = (
+    ap builtResult r,
+    (ap (λ (b : Answer (StringOf Vertex)). leaves (builtFloats b) old) r, ap (λ (b : Answer (StringOf Vertex)). leaves (builtBuoys b) oldBuoys) r),
+  )
+
+  pub refused-build : (e : Refusal) → k ≡ Refused e → Builds (refused (refusalNumber e)) old oldBuoys
   unfolding buildInto
-  refused-build e told = by-answer (refused (refusalNumber e)) (answer-refused k e (buildCheck v) _ told number)
+  refused-build e told = by-answer (refused (refusalNumber e)) (answer-refused k e (buildingCheck v buoys) _ told number)
 
-  pub cramped-build : (m : ℕ) → k ≡ Accepted → length (s .vertices) ≡ m → length old < 3 * m → Builds (refused 7) old
-  unfolding buildInto
-  cramped-build m told l h =
-      let room : roomCheck (3 * length (s .vertices)) (length old) ≡ 7 = no-room (3 * length (s .vertices)) (length old) (omega arith) in
-      by-answer (refused 7) (refuse NoRoom _ (answered s) room ∙ answer-accepted k (buildCheck v) _ told number)
+  module _ (told : k ≡ Accepted) (m : ℕ) (long : length (s .vertices) ≡ m) where
+    by-rooms : (n : ℕ) → roomsCheck m (length old) (length oldBuoys) ≡ n → unlessRefused n (answered s) ≡ into
+    unfolding buildInto
+    by-rooms n h =
+        ap (λ (j : ℕ). unlessRefused j (answered s)) (sym h ∙ ap (λ (j : ℕ). roomsCheck j (length old) (length oldBuoys)) (sym long))
+        ∙ answer-accepted k (buildingCheck v buoys) _ told number
 
-  pub written-build : (m : ℕ) (closed : Bool) (ps : List SphericalPoint) (out : List Float) → k ≡ Accepted → length (s .vertices) ≡ m → closed ≡ s .closed → ps ≡ s .vertices →
-      3 * m ≤ length old → out ≡ flat ps ++ drop (3 * m) old → Builds (answered (m, closed)) out
-  unfolding buildInto
-  written-build m closed ps out told l flag same h w =
-      let room : roomCheck (3 * length (s .vertices)) (length old) ≡ 0 = room-enough (3 * length (s .vertices)) (length old) (omega arith) in
-      let done = by-answer (answered s) (sym (pass _ (answered s) room) ∙ answer-accepted k (buildCheck v) _ told number) in
-      let n : 3 * m ≡ length (flat (s .vertices)) = omega (arith, length-flat (s .vertices)) in (
-        (λ i. answered (sym l i, flag i)) ∙ done .0,
-        w ∙ (λ i. flat (same i) ++ drop (n i) old) ∙ done .1,
-      )
+    pub cramped-build : ltb (length old) (3 * m) || ltb (length oldBuoys) m ≡ true → Builds (refused 7) old oldBuoys
+    cramped-build h = by-answer (refused 7) (by-rooms 7 (rooms-short (length old) (length oldBuoys) m h))
+
+    pub written-build : (closed : Bool) (ps : List SphericalPoint) (bs : List ℕ) (out : List Float) (outBuoys : List ℕ)
+        → ltb (length old) (3 * m) || ltb (length oldBuoys) m ≡ false
+        → closed ≡ s .closed → ps ≡ placesOf (s .vertices) → bs ≡ buoysOf (s .vertices) → out ≡ flat ps ++ drop (3 * m) old → outBuoys ≡ bs ++ drop m oldBuoys
+        → Builds (answered (m, closed)) out outBuoys
+    written-build closed ps bs out outBuoys h flag places numbers w u =
+        let done = by-answer (answered s) (by-rooms 0 (rooms-fit (length old) (length oldBuoys) m h)) in
+        let n : 3 * m ≡ length (flat (placesOf (s .vertices))) = omega (arith, length-flat (placesOf (s .vertices)), length-map (s .vertices) placeOf) in
+        let j : m ≡ length (buoysOf (s .vertices)) = sym (length-map (s .vertices) (λ (x : Vertex). x .buoy) ∙ long) in (
+          (λ i. answered (sym long i, flag i)) ∙ done .0,
+          (w ∙ (λ i. flat (places i) ++ drop (n i) old) ∙ done .1 .0, u ∙ (λ i. numbers i ++ drop (j i) oldBuoys) ∙ done .1 .1),
+        )
+
+-- the string that an accepted list makes: m vertices, whose points are ps
+module _ (k : Checked) (v : List Float) (buoys : List ℕ) (old : List Float) (oldBuoys : List ℕ)
+    (number : checkNumber k ≡ buildingCheck v buoys) (told : k ≡ Accepted) where
+  abbrev made : StringOf Vertex
+  made = builtNumbered (numbered (points v) buoys)
+
+  accepted : buildingCheck v buoys ≡ 0
+  accepted = sym number ∙ ap checkNumber told
+
+  pub accepted-whole : length v ≡ 3 * (length v / 3)
+  accepted-whole = build-whole v (building-passed v buoys accepted) .triples
+
+  pub accepted-two : 2 ≤ length v / 3
+  accepted-two = build-two v (building-passed v buoys accepted)
+
+  pub accepted-buoys : length buoys ≡ length v / 3
+  accepted-buoys = building-buoys v buoys accepted
+
+  as-many : length buoys ≡ length (points v)
+  as-many = accepted-buoys ∙ sym (count-points v)
+
+  places : placesOf (numbered (points v) buoys) ≡ points v
+  places = all-places (points v) buoys as-many
+
+  module _ (m : ℕ) (ps : List SphericalPoint) (same : ps ≡ builtString (points v) .vertices) (count : length (builtString (points v) .vertices) ≡ m) where
+    long : length (made .vertices) ≡ m
+    long = built-count-same (numbered (points v) buoys) ∙ ap (λ (qs : List SphericalPoint). length (builtString qs .vertices)) places ∙ count
+
+    pub build-short : ltb (length old) (3 * m) || ltb (length oldBuoys) m ≡ true → Builds k made v buoys old oldBuoys number (refused 7) old oldBuoys
+    build-short = cramped-build k made v buoys old oldBuoys number told m long
+
+    pub build-done : (closed : Bool) (out : List Float) (outBuoys : List ℕ) → ltb (length old) (3 * m) || ltb (length oldBuoys) m ≡ false
+        → closed ≡ builtString (points v) .closed → m ≤ length buoys
+        → out ≡ flat ps ++ drop (3 * m) old → outBuoys ≡ splice oldBuoys 0 (take m (drop 0 buoys))
+        → Builds k made v buoys old oldBuoys number (answered (m, closed)) out outBuoys
+    unfolding builtNumbered
+    build-done closed out outBuoys room flag few w u =
+        let numbers : take m buoys ≡ buoysOf (made .vertices) =
+        sym (built-buoys (numbered (points v) buoys)
+        ∙ ap₂ (λ (qs : List SphericalPoint) (bs : List ℕ). take (length (builtString qs .vertices)) bs) places (all-buoys (points v) buoys as-many)
+        ∙ ap (λ (n : ℕ). take n buoys) count) in
+        written-build k made v buoys old oldBuoys number told m long closed ps (take m buoys) out outBuoys room
+        (flag ∙ ap (λ (qs : List SphericalPoint). builtString qs .closed) (sym places))
+        (same ∙ sym (built-places (numbered (points v) buoys) ∙ ap (λ (qs : List SphericalPoint). builtString qs .vertices) places))
+        numbers w (u ∙ splice-front oldBuoys m (take m buoys) (length-take-le m buoys few))
 
 -- ---- the same with a given flag
 
-flag-into : (m n : ℕ) (flag : Bool) (s : ArcString) → unlessRefused m (unlessRefused n (answered (flagged flag s))) ≡ mapAnswer (flagged flag) (unlessRefused m (unlessRefused n (answered s)))
+flag-into : (m n : ℕ) (flag : Bool) (s : StringOf Vertex)
+    → unlessRefused m (unlessRefused n (answered (flagged flag s))) ≡ mapAnswer (flagged flag) (unlessRefused m (unlessRefused n (answered s)))
 flag-into zero zero flag s = refl
 flag-into zero (suc n) flag s = refl
 flag-into (suc m) n flag s = refl
 
--- a build with a flag is the build, and then the flag
-flag-after : (v : List Float) (flag : Bool) (room : ℕ) → buildFlagged v flag room ≡ mapAnswer (flagged flag) (build v room)
-unfolding build buildFlagged buildInto flagged
-flag-after v flag room = flag-into (buildCheck v) (roomCheck (3 * length (builtString (points v) .vertices)) room) flag (builtString (points v))
-
-flag-floats : (flag : Bool) (a : Answer ArcString) → builtFloats a ≡ builtFloats (mapAnswer (flagged flag) a)
+flag-floats : (flag : Bool) (a : Answer (StringOf Vertex)) → builtFloats a ≡ builtFloats (mapAnswer (flagged flag) a)
 unfolding flagged
 flag-floats flag (refused n) = refl
 flag-floats flag (answered s) = refl
 
-flag-refused : (flag : Bool) (a : Answer ArcString) (n : ℕ) → refused n ≡ builtResult a → refused n ≡ builtResult (mapAnswer (flagged flag) a)
+flag-buoys : (flag : Bool) (a : Answer (StringOf Vertex)) → builtBuoys a ≡ builtBuoys (mapAnswer (flagged flag) a)
+unfolding flagged
+flag-buoys flag (refused n) = refl
+flag-buoys flag (answered s) = refl
+
+flag-refused : (flag : Bool) (a : Answer (StringOf Vertex)) (n : ℕ) → refused n ≡ builtResult a → refused n ≡ builtResult (mapAnswer (flagged flag) a)
 flag-refused flag (refused m) n h = h
 flag-refused flag (answered s) n h = absurd (let z : _≡_ {A = ℕ} 0 1 = cc in omega arith)
 
-flag-answered : (flag : Bool) (a : Answer ArcString) (n : ℕ) (b : Bool) → answered (n, b) ≡ builtResult a → answered (n, flag) ≡ builtResult (mapAnswer (flagged flag) a)
+flag-answered : (flag : Bool) (a : Answer (StringOf Vertex)) (n : ℕ) (b : Bool)
+    → answered (n, b) ≡ builtResult a → answered (n, flag) ≡ builtResult (mapAnswer (flagged flag) a)
 unfolding flagged
 flag-answered flag (refused m) n b h = absurd (let z : _≡_ {A = ℕ} 0 1 = cc in omega arith)
 flag-answered flag (answered s) n b h =
     let e : _≡_ {A = ℕ × Bool} (n, b) (length (s .vertices), s .closed) = cc in ap (λ (p : ℕ × Bool). answered (p .0, flag)) e
 
-module _ (v old : List Float) (flag : Bool) where
-  pub flagged-refused : (n : ℕ) → refused n ≡ builtResult (build v (length old)) → refused n ≡ builtResult (buildFlagged v flag (length old))
-  flagged-refused n h = flag-refused flag (build v (length old)) n h ∙ ap builtResult (sym (flag-after v flag (length old)))
+module _ (v : List Float) (buoys : List ℕ) (room buoyRoom : ℕ) (flag : Bool) where
+  abbrev plain : Answer (StringOf Vertex)
+  plain = build v buoys room buoyRoom
 
-  pub flagged-answered : (n : ℕ) (b : Bool) → answered (n, b) ≡ builtResult (build v (length old)) → answered (n, flag) ≡ builtResult (buildFlagged v flag (length old))
-  flagged-answered n b h = flag-answered flag (build v (length old)) n b h ∙ ap builtResult (sym (flag-after v flag (length old)))
+  abbrev withFlag : Answer (StringOf Vertex)
+  withFlag = buildFlagged v buoys flag room buoyRoom
 
-  pub flagged-leaves : (out : List Float) → out ≡ leaves (builtFloats (build v (length old))) old → out ≡ leaves (builtFloats (buildFlagged v flag (length old))) old
-  flagged-leaves out h =
-      h ∙ ap (λ (a : Answer (List Float)). leaves a old) (flag-floats flag (build v (length old)) ∙ ap builtFloats (sym (flag-after v flag (length old))))
+  -- a build with a flag is the build, and then the flag
+  flag-after : mapAnswer (flagged flag) plain ≡ withFlag
+  unfolding build buildFlagged buildInto flagged
+  flag-after =
+      let s = builtNumbered (numbered (points v) buoys) in
+      sym (flag-into (buildingCheck v buoys) (roomsCheck (length (s .vertices)) room buoyRoom) flag s)
+
+  pub flagged-refused : (n : ℕ) → refused n ≡ builtResult plain → refused n ≡ builtResult withFlag
+  flagged-refused n h = flag-refused flag plain n h ∙ ap builtResult flag-after
+
+  pub flagged-answered : (n : ℕ) (b : Bool) → answered (n, b) ≡ builtResult plain → answered (n, flag) ≡ builtResult withFlag
+  flagged-answered n b h = flag-answered flag plain n b h ∙ ap builtResult flag-after
+
+  -- the buffers are the build's
+  pub flagged-leaves : (old out : List Float) (oldBuoys outBuoys : List ℕ)
+      → (out ≡ leaves (builtFloats plain) old) × (outBuoys ≡ leaves (builtBuoys plain) oldBuoys)
+      → (out ≡ leaves (builtFloats withFlag) old) × (outBuoys ≡ leaves (builtBuoys withFlag) oldBuoys)
+  flagged-leaves old out oldBuoys outBuoys h = (
+    h .0 ∙ ap (λ (a : Answer (List Float)). leaves a old) (flag-floats flag plain ∙ ap builtFloats flag-after),
+    h .1 ∙ ap (λ (a : Answer (List ℕ)). leaves a oldBuoys) (flag-buoys flag plain ∙ ap builtBuoys flag-after),
+  )

@@ -1,6 +1,6 @@
 -- Vertex k of a built string is built from point k: of length 1, nearly, or a short point as it was. Either way it is in range, so what is built passes the
 -- checks of a stored string. The theorems of `specs/BuildLaws.antt`, and `built-stored` for callers. Assumes nothing.
-use mathlib.Core.Path.{_≡_, refl, sym, subst}
+use mathlib.Core.Path.{_≡_, refl, sym, ap, subst, _∙_}
 use mathlib.Core.Bool.{Bool, true, false, not}
 use mathlib.Core.List.{List, [], _∷_}
 use Prim.Native.Nat.{ℕ, zero, suc, _+_, _*_, _/_, _<_}
@@ -15,13 +15,14 @@ use Rattle.sphericalpoint.specs.Vector.{equalityTolerance, xyzLength}
 use Rattle.unit_length.specs.UnitPoint.{IsF64, InRange, UnitPoint}
 use Rattle.unit_length.specs.UnitLaws.{VertexOf}
 use Rattle.unit_length.proofs.UnitLength.{vertex-once, vertex-twice}
-use Rattle.arcstring.specs.Answer.{answered}
-use Rattle.arcstring.specs.Points.{ArcString, points, flat, pointAt, noPoint}
-use Rattle.arcstring.specs.Check.{inRange, allInRange, storedCheck, buildCheck, roomCheck}
-use Rattle.arcstring.specs.Build.{normalizedAll, endsMeet, builtString, flagged, buildInto, build, buildFlagged}
+use Rattle.arcstring.specs.Answer.{answered, mapAnswer}
+use Rattle.arcstring.specs.Points.{ArcString, unnumbered, points, flat, pointAt, noPoint}
+use Rattle.arcstring.specs.Check.{inRange, allInRange, storedCheck, buildCheck, buildingCheck, roomsCheck}
+use Rattle.arcstring.specs.Build.{normalizedAll, endsMeet, builtString, flagged, buildInto}
 use Rattle.arcstring.specs.BuildLaws.{AllF64, BuiltVertices, Stored, BuiltAccepted, FlaggedAccepted}
 use Rattle.arcstring.proofs.Answers.{both-passed}
-use Rattle.arcstring.proofs.Checks.{range-bound, bound-range, build-whole, points-stored}
+use Rattle.arcstring.proofs.Checks.{range-bound, bound-range, build-whole, building-passed, points-stored}
+use Rattle.arcstring.proofs.BuildsWithout.{build-without, flagged-without}
 use Rattle.arcstring.proofs.Builds.{closed-vertex, closed-length, open-vertex, open-length, built-count}
 
 -- ---- a list of coordinates in range
@@ -94,18 +95,23 @@ pub built-vertices : BuiltVertices
 built-vertices v f64 ok k h = built-vertex v f64 ok k h .1
 
 -- a string whose near list is its vertices, and whose vertices pass where the points do: as it is answered, so it is stored
-into-accepted : (s t : ArcString) (v : List Float) (room : ℕ) → s .near ≡ s .vertices → (buildCheck v ≡ 0 → storedCheck (flat (s .vertices)) ≡ 0)
-    → buildInto s v room ≡ answered t → Stored t
+into-accepted : (s t : ArcString) (v : List Float) (buoys : List ℕ) (room buoyRoom : ℕ) → s .near ≡ s .vertices
+    → (buildCheck v ≡ 0 → storedCheck (flat (s .vertices)) ≡ 0)
+    → buildInto v buoys room buoyRoom s ≡ answered t → Stored t
 unfolding buildInto
-into-accepted s t v room same h e =
-    let passed = both-passed (buildCheck v) (roomCheck (3 * length (s .vertices)) room) s t e in
-    let there = h (passed .0) in
+into-accepted s t v buoys room buoyRoom same h e =
+    let passed = both-passed (buildingCheck v buoys) (roomsCheck (length (s .vertices)) room buoyRoom) s t e in
+    let there = h (building-passed v buoys (passed .0)) in
     subst Stored (passed .2) (record { vertices-stored = there; near-stored = rw same there })
 
 pub built-accepted : BuiltAccepted
-unfolding build builtString
-built-accepted v f64 room s e = into-accepted (builtString (points v)) s v room refl (built-stored v f64) e
+unfolding builtString
+built-accepted v f64 buoys room buoyRoom s e =
+    into-accepted (builtString (points v)) (unnumbered s) v buoys room buoyRoom refl (built-stored v f64)
+    (sym (build-without v buoys room buoyRoom) ∙ ap (mapAnswer unnumbered) e)
 
 pub flagged-accepted : FlaggedAccepted
-unfolding buildFlagged flagged builtString
-flagged-accepted v f64 flag room s e = into-accepted (flagged flag (builtString (points v))) s v room refl (built-stored v f64) e
+unfolding flagged builtString
+flagged-accepted v f64 buoys flag room buoyRoom s e =
+    into-accepted (flagged flag (builtString (points v))) (unnumbered s) v buoys room buoyRoom refl (built-stored v f64)
+    (sym (flagged-without v buoys flag room buoyRoom) ∙ ap (mapAnswer unnumbered) e)

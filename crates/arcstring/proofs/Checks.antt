@@ -19,10 +19,11 @@ use Rattle.arcstring.specs.declared.check.Refusal.{Refusal}
 use Rattle.arcstring.specs.declared.check.Checked.{Checked}
 use Rattle.arcstring.specs.declared.check.Checked.the-variants.{Refused}
 use Rattle.arcstring.specs.Answer.{numberIf, firstOf, refusalNumber}
-use Rattle.arcstring.specs.Check.{checkNumber, inRange, allInRange, listCheck, storedCheck, buildCheck, pointCheck}
+use Rattle.arcstring.specs.Check.{checkNumber, inRange, allInRange, listCheck, storedCheck, buoysCheck, stringCheck, buildCheck}
+use Rattle.arcstring.specs.Check.{buildingCheck, pointsCheck, pointCheck}
 use Rattle.arcstring.specs.Points.{flat}
 use Rattle.arcstring.proofs.Flat.{length-flat}
-use Rattle.arcstring.proofs.Answers.{first-passes, second-passes, first-refused}
+use Rattle.arcstring.proofs.Answers.{first-passes, second-passes, first-alone, first-refused}
 
 -- ---- a coordinate: in range is at most 1 in size
 
@@ -91,13 +92,49 @@ module _ (v : List Float) where
   unfolding storedCheck
   stored-not-empty h = sym (ap (λ (b : Bool). listCheck (numberIf b 1) v) (ne-eqb _ _ h))
 
-  pub build-too-few : length v / 3 < 2 → listCheck 2 v ≡ buildCheck v
-  unfolding buildCheck
-  build-too-few h = sym (ap (λ (b : Bool). listCheck (numberIf b 2) v) (lt-ltb _ _ h))
-
   pub build-enough : 2 ≤ length v / 3 → listCheck 0 v ≡ buildCheck v
   unfolding buildCheck
   build-enough h = sym (ap (λ (b : Bool). listCheck (numberIf b 2) v) (le-ltb _ _ h))
+
+  -- with numbers: `few` by the two tests
+  module _ (buoys : List ℕ) where
+    by-string-tests : (a b : Bool) → eqb (length v) 0 ≡ a → eqb (length buoys) (length v / 3) ≡ b
+        → listCheck (firstOf (numberIf a 1) (numberIf (not b) 10)) v ≡ stringCheck v buoys
+    unfolding stringCheck buoysCheck
+    by-string-tests a b p q = sym (λ i. listCheck (firstOf (numberIf (p i) 1) (numberIf (not (q i)) 10)) v)
+
+    pub string-empty : length v ≡ 0 → listCheck 1 v ≡ stringCheck v buoys
+    string-empty h = by-string-tests true (eqb (length buoys) (length v / 3)) (eq-eqb _ _ h) refl
+
+    pub string-not-as-many : (length v ≡ 0 → ⊥) → (length buoys ≡ length v / 3 → ⊥) → listCheck 10 v ≡ stringCheck v buoys
+    string-not-as-many h l = by-string-tests false false (ne-eqb _ _ h) (ne-eqb _ _ l)
+
+    pub string-as-many : (length v ≡ 0 → ⊥) → length buoys ≡ length v / 3 → listCheck 0 v ≡ stringCheck v buoys
+    string-as-many h l = by-string-tests false true (ne-eqb _ _ h) (eq-eqb _ _ l)
+
+    by-building-tests : (a b : Bool) → eqb (length buoys) (length v / 3) ≡ a → ltb (length v / 3) 2 ≡ b
+        → listCheck (firstOf (numberIf (not a) 10) (numberIf b 2)) v ≡ buildingCheck v buoys
+    unfolding buildingCheck buoysCheck
+    by-building-tests a b p q = sym (λ i. listCheck (firstOf (numberIf (not (p i)) 10) (numberIf (q i) 2)) v)
+
+    pub building-not-as-many : (length buoys ≡ length v / 3 → ⊥) → listCheck 10 v ≡ buildingCheck v buoys
+    building-not-as-many l = by-building-tests false (ltb (length v / 3) 2) (ne-eqb _ _ l) refl
+
+    pub building-too-few : length buoys ≡ length v / 3 → length v / 3 < 2 → listCheck 2 v ≡ buildingCheck v buoys
+    building-too-few l h = by-building-tests true true (eq-eqb _ _ l) (lt-ltb _ _ h)
+
+    pub building-enough : length buoys ≡ length v / 3 → 2 ≤ length v / 3 → listCheck 0 v ≡ buildingCheck v buoys
+    building-enough l h = by-building-tests true false (eq-eqb _ _ l) (le-ltb _ _ h)
+
+    by-points-test : (b : Bool) → eqb (length buoys) (length v / 3) ≡ b → listCheck (numberIf (not b) 10) v ≡ pointsCheck v buoys
+    unfolding pointsCheck buoysCheck
+    by-points-test b p = sym (λ i. listCheck (numberIf (not (p i)) 10) v)
+
+    pub points-not-as-many : (length buoys ≡ length v / 3 → ⊥) → listCheck 10 v ≡ pointsCheck v buoys
+    points-not-as-many l = by-points-test false (ne-eqb _ _ l)
+
+    pub points-as-many : length buoys ≡ length v / 3 → listCheck 0 v ≡ pointsCheck v buoys
+    points-as-many l = by-points-test true (eq-eqb _ _ l)
 
 -- ---- what an accepted list is
 
@@ -150,6 +187,58 @@ stored-some v h =
     let e : length v ≡ 0 → ⊥ = eqb-false (length v) 0 (if-none (eqb (length v) 0) 0 (few-passes (numberIf (eqb (length v) 0) 1) v h)) in
     let w = stored-whole v h .triples in
     omega arith
+
+-- ---- an accepted list with its numbers: the list is accepted, and there are as many numbers
+
+module _ (v : List Float) (buoys : List ℕ) where
+  none-wrong : buoysCheck v buoys ≡ 0 → length buoys ≡ length v / 3
+  unfolding buoysCheck
+  none-wrong h = eqb-true (length buoys) (length v / 3) (if-none-not (eqb (length buoys) (length v / 3)) 9 h)
+
+  right-many : length buoys ≡ length v / 3 → buoysCheck v buoys ≡ 0
+  unfolding buoysCheck
+  right-many h = ap (λ (b : Bool). numberIf (not b) 10) (eq-eqb (length buoys) (length v / 3) h)
+
+  -- as many numbers: the check of the list alone
+  pub string-alone : length buoys ≡ length v / 3 → stringCheck v buoys ≡ storedCheck v
+  unfolding stringCheck storedCheck
+  string-alone h =
+      ap (λ (n : ℕ). listCheck (firstOf (numberIf (eqb (length v) 0) 1) n) v) (right-many h)
+      ∙ ap (λ (n : ℕ). listCheck n v) (first-alone (numberIf (eqb (length v) 0) 1))
+
+  pub building-alone : length buoys ≡ length v / 3 → buildingCheck v buoys ≡ buildCheck v
+  unfolding buildingCheck buildCheck
+  building-alone h = ap (λ (n : ℕ). listCheck (firstOf n (numberIf (ltb (length v / 3) 2) 2)) v) (right-many h)
+
+  module _ (h : stringCheck v buoys ≡ 0) where
+    few-none : firstOf (numberIf (eqb (length v) 0) 1) (buoysCheck v buoys) ≡ 0
+    unfolding stringCheck
+    few-none = few-passes (firstOf (numberIf (eqb (length v) 0) 1) (buoysCheck v buoys)) v h
+
+    pub as-many-buoys : length buoys ≡ length v / 3
+    as-many-buoys = none-wrong (second-passes (numberIf (eqb (length v) 0) 1) (buoysCheck v buoys) few-none)
+
+    pub string-stored : storedCheck v ≡ 0
+    string-stored = sym (string-alone as-many-buoys) ∙ h
+
+  module _ (h : buildingCheck v buoys ≡ 0) where
+    pub building-buoys : length buoys ≡ length v / 3
+    unfolding buildingCheck
+    building-buoys =
+        none-wrong (first-passes (buoysCheck v buoys) (numberIf (ltb (length v / 3) 2) 2)
+        (few-passes (firstOf (buoysCheck v buoys) (numberIf (ltb (length v / 3) 2) 2)) v h))
+
+    pub building-passed : buildCheck v ≡ 0
+    building-passed = sym (building-alone building-buoys) ∙ h
+
+  module _ (h : pointsCheck v buoys ≡ 0) where
+    pub points-buoys : length buoys ≡ length v / 3
+    unfolding pointsCheck
+    points-buoys = none-wrong (few-passes (buoysCheck v buoys) v h)
+
+    pub points-whole : WholeList v
+    unfolding pointsCheck
+    points-whole = whole-list (buoysCheck v buoys) v h
 
 -- points in range, as many as a string may have, are such a list
 pub points-stored : (ps : List SphericalPoint) → 1 ≤ length ps → length ps ≤ 1024 → allInRange (flat ps) ≡ true → storedCheck (flat ps) ≡ 0

@@ -1,15 +1,14 @@
--- The points at the start of a list that is worked on: all of them, how many, after a copy, and with one more put behind them. Assumes nothing.
+-- The points at the start of a list that is worked on: all of them, how many, and after a copy. Assumes nothing.
 use mathlib.Core.Path.{_≡_, ap, _∙_}
-use mathlib.Core.List.{List, [], _∷_, _++_}
+use mathlib.Core.List.{List}
 use Prim.Native.Nat.{ℕ, _+_, _*_, _≤_}
 use native.Mathlib.Omega.{arith}
 use lib.ListN.{length, take}
 use lib.Seq.{length-take-le, take-all}
 use lib.Ieee.{Float}
-use Rattle.sphericalpoint.specs.declared.SphericalPoint.{SphericalPoint}
 use Rattle.arcstring.specs.Points.{points}
 use Rattle.arcstring.specs.Splice.{splice}
-use Rattle.arcstring.proofs.Flat.{points-append, take-points, length-points}
+use Rattle.arcstring.proofs.Flat.{take-points, length-points}
 use Rattle.arcstring.proofs.Splices.{take-past-splice}
 use Rattle.arcstring.specs.Work.{firstOfList}
 
@@ -34,13 +33,3 @@ first-copied n v old out h e =
     let past : take (0 + length (take (3 * n) v)) (splice old 0 (take (3 * n) v)) ≡ take (3 * n) v = take-past-splice old 0 (take (3 * n) v) (omega arith) in
     let z : 0 + length (take (3 * n) v) ≡ 3 * n = omega arith in
     ap points (ap (take (3 * n)) e ∙ (rw z at past))
-
--- one point more
-pub first-put : (n : ℕ) (old out : List Float) (p : SphericalPoint) → 3 * n + 3 ≤ length old → out ≡ splice old (3 * n) (p .x ∷ p .y ∷ p .z ∷ []) → firstOfList (n + 1) out ≡ firstOfList n old ++ (p ∷ [])
-unfolding firstOfList
-first-put n old out p h e =
-    let l : length (take (3 * n) old) ≡ 3 * n = length-take-le (3 * n) old (omega arith) in
-    let three : 3 * (n + 1) ≡ 3 * n + 3 = omega arith in
-    rw three
-    (ap points (ap (take (3 * n + 3)) e ∙ take-past-splice old (3 * n) (p .x ∷ p .y ∷ p .z ∷ []) (omega arith))
-    ∙ points-append n (take (3 * n) old) (p .x ∷ p .y ∷ p .z ∷ []) l)

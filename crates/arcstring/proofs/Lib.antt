@@ -1,5 +1,5 @@
--- The laws of lists, checks, building and walking. For others to cite: `BuiltAccepted`, the theorems of `specs/BuildLaws.antt`; and what callers' proofs need,
--- `Answers`, `Checks`, `Rooms`, `Flat`, `Splices`, `Moves`, `Firsts`, `Handed`, `Builds`. The rest serves the functions' proofs.
+-- The laws of lists, checks, building and walking, with numbers and without. For others to cite: `BuiltAccepted`, the theorems of `specs/BuildLaws.antt`;
+-- `WithoutBuoys` and `BuildsWithout`, those of `specs/BuoyLaws.antt`; and what callers' proofs need. `Walks` serves this crate alone.
 pub mod Answers
 pub mod Checks
 pub mod Flat
@@ -9,5 +9,8 @@ pub mod BuiltAccepted
 pub mod Moves
 pub mod Rooms
 pub mod Firsts
-pub mod Handed
+pub mod Numbered
+pub mod Written
+pub mod WithoutBuoys
+pub mod BuildsWithout
 mod Walks

@@ -77,3 +77,16 @@ module _ {A : Type 0} where
       let e1 : at + 1 ≡ suc at = add-one at in
       let e2 : at + 2 ≡ suc (suc at) = omega arith in
       rw (e1, e2) (sets-eq (x ∷ y ∷ z ∷ []) old at h ∙ append-assoc (take at old) (x ∷ y ∷ z ∷ []) (drop (at + 3) old))
+
+  -- one store right after a part
+  pub set-next : (old out : List A) (at : ℕ) (done : List A) (i : ℕ) (x : A) → out ≡ splice old at done → length done ≡ i → at + i < length old
+      → set out (at + i) x ≡ splice old at (done ++ (x ∷ []))
+  set-next old out at done i x before count room =
+      let l : length out ≡ length old = ap length before ∙ length-splice old at done (omega arith) in
+      spliced-next old out (set out (at + i) x) at done (at + i) (x ∷ []) before (set-splice out (at + i) x (omega arith)) (omega arith) (omega arith)
+
+  pub push-next : (old out : List A) (done : List A) (i : ℕ) (x : A) → out ≡ splice old 0 done → length done ≡ i → i < length old
+      → set out i x ≡ splice old 0 (done ++ (x ∷ []))
+  push-next old out done i x before count room =
+      let e : 0 + i ≡ i = omega arith in
+      ap (λ (k : ℕ). set out k x) (sym e) ∙ set-next old out 0 done i x before count (omega arith)

@@ -4,9 +4,10 @@ use mathlib.Core.List.{List, _++_}
 use Prim.Native.Nat.{ℕ, zero, suc}
 use lib.ListN.{length, drop}
 use Rattle.arcstring.specs.declared.check.Refusal.{Refusal}
-use Rattle.arcstring.specs.declared.check.Refusal.the-variants.{NotTriples, TooFewPoints, TooManyPoints, OutOfRange, RemovesPastEnd, ReadsPastEnd, NoRoom}
+use Rattle.arcstring.specs.declared.check.Refusal.the-variants.{NotTriples, TooFewPoints, TooManyPoints, OutOfRange}
+use Rattle.arcstring.specs.declared.check.Refusal.the-variants.{RemovesPastEnd, ReadsPastEnd, NoRoom, BuoysNotAsMany}
 
--- the numbers of document 01's table
+-- the numbers of document 01's table, and document 02's 10
 abbrev pub refusalNumber : Refusal → ℕ
 refusalNumber NotTriples = 1
 refusalNumber TooFewPoints = 2
@@ -15,6 +16,7 @@ refusalNumber OutOfRange = 4
 refusalNumber RemovesPastEnd = 5
 refusalNumber ReadsPastEnd = 6
 refusalNumber NoRoom = 7
+refusalNumber BuoysNotAsMany = 10
 
 pub data Answer (A : Type 0) : Type 0 where
   refused : ℕ → Answer A

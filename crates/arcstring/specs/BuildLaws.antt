@@ -9,7 +9,8 @@ use lib.ListN.{length, getD}
 use lib.Ieee.{Float, nan, binary64, fits}
 use Rattle.unit_length.specs.UnitLaws.{VertexOf}
 use Rattle.arcstring.specs.Answer.{answered}
-use Rattle.arcstring.specs.Points.{ArcString, points, flat, pointAt, noPoint}
+use Rattle.arcstring.specs.declared.vertex.Vertex.{Vertex}
+use Rattle.arcstring.specs.Points.{StringOf, ArcString, unnumbered, points, flat, pointAt, noPoint}
 use Rattle.arcstring.specs.Check.{storedCheck, buildCheck}
 use Rattle.arcstring.specs.Build.{builtString, build, buildFlagged}
 
@@ -30,8 +31,11 @@ pub record Stored (s : ArcString) : Type 0 where
 
 -- Whatever is built is accepted,
 abbrev pub BuiltAccepted : Type 0
-BuiltAccepted = (v : List Float) → AllF64 v → (room : ℕ) (s : ArcString) → build v room ≡ answered s → Stored s
+BuiltAccepted =
+    (v : List Float) → AllF64 v → (buoys : List ℕ) (room buoyRoom : ℕ) (s : StringOf Vertex) → build v buoys room buoyRoom ≡ answered s → Stored (unnumbered s)
 
 -- with a given flag too.
 abbrev pub FlaggedAccepted : Type 0
-FlaggedAccepted = (v : List Float) → AllF64 v → (flag : Bool) (room : ℕ) (s : ArcString) → buildFlagged v flag room ≡ answered s → Stored s
+FlaggedAccepted =
+    (v : List Float) → AllF64 v → (buoys : List ℕ) (flag : Bool) (room buoyRoom : ℕ) (s : StringOf Vertex)
+    → buildFlagged v buoys flag room buoyRoom ≡ answered s → Stored (unnumbered s)

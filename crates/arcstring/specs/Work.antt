@@ -13,10 +13,10 @@ use Rattle.arcstring.specs.Points.{points}
 unfoldable pub firstOfList : ℕ → List Float → List SphericalPoint
 firstOfList n v = points (take (3 * n) v)
 
--- what a step answered, where its points stand at the start of the list
-abbrev pub heldPoints : Written → List Float → Answer (List SphericalPoint)
-heldPoints (W.Vertices n) v = answered (firstOfList n v)
-heldPoints (W.Refused e) v = refused (refusalNumber e)
+-- what a step answered, where it stands at the start of a list
+abbrev pub held : {A : Type 0} → Written → List A → Answer (List A)
+held (W.Vertices n) l = answered (take n l)
+held (W.Refused e) l = refused (refusalNumber e)
 
 -- how many
 abbrev pub heldCount : Written → ℕ

@@ -6,7 +6,7 @@ ghost use Prim.Native.Nat.{_*_, _≤_};
 ghost use lib.ListN.{length, take, drop};
 ghost use Rattle.arcstring.specs.Answer.{leaves};
 ghost use Rattle.arcstring.specs.Points.{points, flat};
-ghost use Rattle.arcstring.specs.Build.{normalizedAll, endsMeet, buildFlagged, builtAnswer, builtResult, builtFloats};
+ghost use Rattle.arcstring.specs.Build.{normalizedAll, endsMeet, buildFlagged, builtAnswer, builtResult, builtFloats, builtBuoys};
 ghost use Rattle.arcstring.specs.Build as Build;
 use crate::check;
 use crate::check::Checked;
@@ -60,38 +60,48 @@ pub fn build_closed(v: &[f64], m: usize, out: &mut [f64])
     normalize_points(out, m);
 }
 
-// The string that the points of `v` make: each divided by its length unless that is below 3e-11; and if first and
-// last then are equal, without the last, the rest normalised once more, and closed. Its near list is its vertices.
-// Refuses by 1, 2, 3 and 4 of the points, and by 7.
-pub fn build(v: &[f64], out: &mut [f64]) -> Built
-    ensures { λ r. ⌜ builtAnswer r ≡ builtResult (Build.build (now (v .entry)) (length (now (out .entry)))) ⌝ }
-    ensures { λ _. ⌜ now (out .exit) ≡ leaves (builtFloats (Build.build (now (v .entry)) (length (now (out .entry))))) (now (out .entry)) ⌝ }
+// The string that the points of `v` make, each vertex with its point's number: each point divided by its length unless that
+// is below 3e-11; and if first and last then are equal, without the last, the rest normalised once more, and closed. Its near
+// list is its vertices. Refuses by 1, 10, 2, 3 and 4 of the points, and by 7.
+pub fn build(v: &[f64], buoys: &[u32], out: &mut [f64], out_buoys: &mut [u32]) -> Built
+    ensures { λ r. ⌜ builtAnswer r ≡ builtResult (Build.build (now (v .entry)) (now (buoys .entry)) (length (now (out .entry))) (length (now («out_buoys» .entry)))) ⌝ }
+    ensures { λ _. ⌜ now (out .exit) ≡ leaves (builtFloats (Build.build (now (v .entry)) (now (buoys .entry)) (length (now (out .entry))) (length (now («out_buoys» .entry))))) (now (out .entry)) ⌝ }
+    ensures { λ _. ⌜ now («out_buoys» .exit) ≡ leaves (builtBuoys (Build.build (now (v .entry)) (now (buoys .entry)) (length (now (out .entry))) (length (now («out_buoys» .entry))))) (now («out_buoys» .entry)) ⌝ }
 {
-    let checked = check::check_build(v);
+    let checked = check::check_building(v, buoys);
     if let Checked::Refused(e) = checked {
         return Built::Refused(e);
     }
     let n = v.len() / 3;
     if ends_meet(v, n) {
-        if out.len() < 3 * (n - 1) {
+        if (out.len() < 3 * (n - 1)) | (out_buoys.len() < n - 1) {
             return Built::Refused(Refusal::NoRoom);
         }
         build_closed(v, n - 1, out);
+        vertex::copy_buoys(buoys, 0, n - 1, out_buoys, 0);
         return Built::String(n - 1, true);
     }
-    if out.len() < 3 * n {
+    if (out.len() < 3 * n) | (out_buoys.len() < n) {
         return Built::Refused(Refusal::NoRoom);
     }
     build_open(v, n, out);
+    vertex::copy_buoys(buoys, 0, n, out_buoys, 0);
     Built::String(n, false)
 }
 
-// The same with a given flag, which replaces only the flag: the vertices are those of `build`.
-pub fn build_flagged(v: &[f64], closed: bool, out: &mut [f64]) -> Built
-    ensures { λ r. ⌜ builtAnswer r ≡ builtResult (buildFlagged (now (v .entry)) closed (length (now (out .entry)))) ⌝ }
-    ensures { λ _. ⌜ now (out .exit) ≡ leaves (builtFloats (buildFlagged (now (v .entry)) closed (length (now (out .entry))))) (now (out .entry)) ⌝ }
+// The same with a given flag, which replaces only the flag: vertices and numbers are those of `build`.
+pub fn build_flagged(
+    v: &[f64],
+    buoys: &[u32],
+    closed: bool,
+    out: &mut [f64],
+    out_buoys: &mut [u32],
+) -> Built
+    ensures { λ r. ⌜ builtAnswer r ≡ builtResult (buildFlagged (now (v .entry)) (now (buoys .entry)) closed (length (now (out .entry))) (length (now («out_buoys» .entry)))) ⌝ }
+    ensures { λ _. ⌜ now (out .exit) ≡ leaves (builtFloats (buildFlagged (now (v .entry)) (now (buoys .entry)) closed (length (now (out .entry))) (length (now («out_buoys» .entry))))) (now (out .entry)) ⌝ }
+    ensures { λ _. ⌜ now («out_buoys» .exit) ≡ leaves (builtBuoys (buildFlagged (now (v .entry)) (now (buoys .entry)) closed (length (now (out .entry))) (length (now («out_buoys» .entry))))) (now («out_buoys» .entry)) ⌝ }
 {
-    let built = build(v, out);
+    let built = build(v, buoys, out, out_buoys);
     match built {
         Built::Refused(e) => Built::Refused(e),
         Built::String(n, _) => Built::String(n, closed),

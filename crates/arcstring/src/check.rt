@@ -1,10 +1,11 @@
-// What is refused: the checks of document 01's table, in the order of its numbers.
+// What is refused: the checks of document 01's table, in the order of its numbers, and document 02's 10, right after 1.
 ghost use mathlib.Core.Path.{_≡_};
 ghost use Rattle.arcstring.specs.Answer.{firstOf, refusalNumber};
-ghost use Rattle.arcstring.specs.Check.{checkNumber, inRange, allInRange, listCheck, storedCheck, buildCheck, pointCheck, roomCheck};
+ghost use Rattle.arcstring.specs.Check.{checkNumber, inRange, allInRange, listCheck, storedCheck, stringCheck};
+ghost use Rattle.arcstring.specs.Check.{buildingCheck, pointsCheck, pointCheck, roomCheck};
 use sphericalpoint::SphericalPoint;
 
-// Why a call says no. `refusalNumber` of specs/Answer.antt gives document 01's number of each.
+// Why a call says no. `refusalNumber` of specs/Answer.antt gives the number of each.
 pub enum Refusal {
     NotTriples,
     TooFewPoints,
@@ -13,9 +14,10 @@ pub enum Refusal {
     RemovesPastEnd,
     ReadsPastEnd,
     NoRoom,
+    BuoysNotAsMany,
 }
 
-// Document 01's number of a refusal.
+// The number of a refusal.
 pub fn number(e: Refusal) -> u32
     ensures { λ r. ⌜ r ≡ refusalNumber e ⌝ }
 {
@@ -27,6 +29,7 @@ pub fn number(e: Refusal) -> u32
         Refusal::RemovesPastEnd => 5,
         Refusal::ReadsPastEnd => 6,
         Refusal::NoRoom => 7,
+        Refusal::BuoysNotAsMany => 10,
     }
 }
 
@@ -92,15 +95,40 @@ pub fn check_stored(list: &[f64]) -> Checked
     }
 }
 
-// A list to build from.
-pub fn check_build(list: &[f64]) -> Checked
-    ensures { λ r. ⌜ checkNumber r ≡ buildCheck (now (list .entry)) ⌝ }
+// The vertices of a stored string, and their numbers.
+pub fn check_string(v: &[f64], buoys: &[u32]) -> Checked
+    ensures { λ r. ⌜ checkNumber r ≡ stringCheck (now (v .entry)) (now (buoys .entry)) ⌝ }
 {
-    if list.len() / 3 < 2 {
-        check_list(list, Checked::Refused(Refusal::TooFewPoints))
-    } else {
-        check_list(list, Checked::Accepted)
+    if v.len() == 0 {
+        return check_list(v, Checked::Refused(Refusal::NotTriples));
     }
+    if buoys.len() != v.len() / 3 {
+        return check_list(v, Checked::Refused(Refusal::BuoysNotAsMany));
+    }
+    check_list(v, Checked::Accepted)
+}
+
+// A list to build from, and its numbers.
+pub fn check_building(list: &[f64], buoys: &[u32]) -> Checked
+    ensures { λ r. ⌜ checkNumber r ≡ buildingCheck (now (list .entry)) (now (buoys .entry)) ⌝ }
+{
+    if buoys.len() != list.len() / 3 {
+        return check_list(list, Checked::Refused(Refusal::BuoysNotAsMany));
+    }
+    if list.len() / 3 < 2 {
+        return check_list(list, Checked::Refused(Refusal::TooFewPoints));
+    }
+    check_list(list, Checked::Accepted)
+}
+
+// Points to put in or to cut at, and their numbers.
+pub fn check_points(list: &[f64], buoys: &[u32]) -> Checked
+    ensures { λ r. ⌜ checkNumber r ≡ pointsCheck (now (list .entry)) (now (buoys .entry)) ⌝ }
+{
+    if buoys.len() != list.len() / 3 {
+        return check_list(list, Checked::Refused(Refusal::BuoysNotAsMany));
+    }
+    check_list(list, Checked::Accepted)
 }
 
 pub fn check_point(p: SphericalPoint) -> Checked

@@ -7,7 +7,7 @@
 //     build     a string from a list of points
 //     walk      backwards, restarted, and the run between two positions
 //
-// vertex and work hold what the calls of the layer share. A function with a `requires` is for the crates of the string
+// vertex holds what the calls of the layer share. A function with a `requires` is for the crates of the string
 // layer, not for users. Above this crate: arcstring_crossing has pairs of legs, arcstring_relation a point on a string,
 // comparisons, turns and midpoints, arcstring_simplify and arcstring_split strings changed.
 pub mod build;
@@ -15,4 +15,3 @@ pub mod check;
 pub mod point;
 pub mod vertex;
 pub mod walk;
-pub mod work;

@@ -7,7 +7,7 @@ use Prim.Native.Nat.{ℕ}
 use lib.ListN.{length}
 use lib.Ieee.{Float}
 use Rattle.arcstring.specs.Answer.{Answer, refused, answered, mapAnswer, leaves, flagNumber}
-use Rattle.arcstring.specs.Points.{ArcString}
+use Rattle.arcstring.specs.Points.{StringOf}
 use Rattle.arcstring.specs.Build.{builtResult}
 use Rattle.arcstring_crossing.specs.declared.listing.Counts.{Counts}
 use Rattle.arcstring_crossing.specs.Listing.{Listing, listedResult, listedFloats, listedBytes}
@@ -46,10 +46,10 @@ module _ {A B : Type 0} (f : A → B) where
     place-of part old p = place-as h part old p ∙ part-place part a old
 
 -- the vertices of a string
-abbrev builtPart : ArcString → ℕ × Bool
+abbrev builtPart : {A : Type 0} → StringOf A → ℕ × Bool
 builtPart s = (length (s .vertices), s .closed)
 
-module _ (a : Answer ArcString) {b : Answer (ℕ × Bool)} (h : b ≡ builtResult a) where
+module _ {A : Type 0} (a : Answer (StringOf A)) {b : Answer (ℕ × Bool)} (h : b ≡ builtResult a) where
   pub built-number : {n : ℕ} → n ≡ answerNumber b → n ≡ answerNumber a
   built-number p = number-of builtPart a h p
 

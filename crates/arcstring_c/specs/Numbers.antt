@@ -8,7 +8,7 @@ use lib.ListN.{length, getD}
 use lib.Ieee.{Float, nan}
 use Rattle.sphericalpoint.specs.declared.SphericalPoint.{SphericalPoint}
 use Rattle.arcstring.specs.Answer.{Answer, refused, answered, pick, flagNumber}
-use Rattle.arcstring.specs.Points.{ArcString, point}
+use Rattle.arcstring.specs.Points.{StringOf, point}
 use Rattle.arcstring.specs.Walk.{runOf}
 use Rattle.arcstring_crossing.specs.declared.listing.Counts.{Counts}
 use Rattle.arcstring_crossing.specs.Crossing.{Leg, leg, Judged}
@@ -54,10 +54,10 @@ pointPlace old j = pointOver old (j .point)
 
 -- ---- strings and listings
 
-abbrev pub vertexCount : ArcString → ℕ
+abbrev pub vertexCount : {A : Type 0} → StringOf A → ℕ
 vertexCount s = length (s .vertices)
 
-abbrev pub closedByte : ArcString → ℕ
+abbrev pub closedByte : {A : Type 0} → StringOf A → ℕ
 closedByte s = flagNumber (s .closed)
 
 -- clean, end, grazing, apart

@@ -2,12 +2,12 @@
 ghost use mathlib.Core.Path.{_≡_};
 ghost use lib.ListN.{length};
 ghost use Rattle.arcstring.specs.Answer.{leaves, mapAnswer, flagNumber};
-ghost use Rattle.arcstring.specs.Walk.{writtenFloats};
+ghost use Rattle.arcstring.specs.Walk.{writtenFloats, withoutBuoys, writtenBuoys};
 ghost use Rattle.arcstring_simplify.specs.Simplify.{simplify};
 ghost use Rattle.arcstring_simplify.specs.Relation.{equals, overlaps};
 ghost use Rattle.arcstring_split.specs.Insert.{insertVertices};
 ghost use Rattle.arcstring_split.specs.SplitLeg.{splitLeg, splitAnswer, ofPieces, legFloats};
-ghost use Rattle.arcstring_split.specs.Split.{splitString, pieceFloats, pieceCounts, pieceFlags};
+ghost use Rattle.arcstring_split.specs.Split.{splitString, pieceFloats, pieceBuoys, pieceCounts, pieceFlags};
 ghost use Rattle.arcstring_c.specs.Numbers.{answerNumber, leftIn, flag, legOfSix, pieceNumber, piecesWritten};
 use arcstring::check;
 use arcstring_split::split::Split;
@@ -32,16 +32,19 @@ fn cut(s: Split, pieces: &mut usize) -> u32
 #[no_mangle]
 pub extern "C" fn arcstring_simplify(
     v: &[f64],
+    buoys: &[u32],
     closed: u8,
     out: &mut [f64],
+    out_buoys: &mut [u32],
     count: &mut usize,
 ) -> u32
-    ensures { λ r. ⌜ r ≡ answerNumber (simplify (now (v .entry)) (flag closed) (length (now (out .entry)))) ⌝ }
-    ensures { λ _. ⌜ now (out .exit) ≡ leaves (writtenFloats (simplify (now (v .entry)) (flag closed) (length (now (out .entry))))) (now (out .entry)) ⌝ }
-    ensures { λ _. ⌜ now (count .exit) ≡ leftIn length (simplify (now (v .entry)) (flag closed) (length (now (out .entry)))) (now (count .entry)) ⌝ }
+    ensures { λ r. ⌜ r ≡ answerNumber (simplify (now (v .entry)) (now (buoys .entry)) (flag closed) (length (now (out .entry))) (length (now («out_buoys» .entry)))) ⌝ }
+    ensures { λ _. ⌜ now (out .exit) ≡ leaves (writtenFloats (withoutBuoys (simplify (now (v .entry)) (now (buoys .entry)) (flag closed) (length (now (out .entry))) (length (now («out_buoys» .entry)))))) (now (out .entry)) ⌝ }
+    ensures { λ _. ⌜ now («out_buoys» .exit) ≡ leaves (writtenBuoys (simplify (now (v .entry)) (now (buoys .entry)) (flag closed) (length (now (out .entry))) (length (now («out_buoys» .entry))))) (now («out_buoys» .entry)) ⌝ }
+    ensures { λ _. ⌜ now (count .exit) ≡ leftIn length (simplify (now (v .entry)) (now (buoys .entry)) (flag closed) (length (now (out .entry))) (length (now («out_buoys» .entry)))) (now (count .entry)) ⌝ }
 {
     crate::written(
-        arcstring_simplify::simplify::simplify(v, crate::is_closed(closed), out),
+        arcstring_simplify::simplify::simplify(v, buoys, crate::is_closed(closed), out, out_buoys),
         count,
     )
 }
@@ -49,17 +52,29 @@ pub extern "C" fn arcstring_simplify(
 #[no_mangle]
 pub extern "C" fn arcstring_insert_vertices(
     v: &[f64],
+    buoys: &[u32],
     closed: u8,
     points: &[f64],
+    point_buoys: &[u32],
     out: &mut [f64],
+    out_buoys: &mut [u32],
     count: &mut usize,
 ) -> u32
-    ensures { λ r. ⌜ r ≡ answerNumber (insertVertices (now (v .entry)) (flag closed) (now (points .entry)) (length (now (out .entry)))) ⌝ }
-    ensures { λ _. ⌜ now (out .exit) ≡ leaves (writtenFloats (insertVertices (now (v .entry)) (flag closed) (now (points .entry)) (length (now (out .entry))))) (now (out .entry)) ⌝ }
-    ensures { λ _. ⌜ now (count .exit) ≡ leftIn length (insertVertices (now (v .entry)) (flag closed) (now (points .entry)) (length (now (out .entry)))) (now (count .entry)) ⌝ }
+    ensures { λ r. ⌜ r ≡ answerNumber (insertVertices (now (v .entry)) (now (buoys .entry)) (flag closed) (now (points .entry)) (now («point_buoys» .entry)) (length (now (out .entry))) (length (now («out_buoys» .entry)))) ⌝ }
+    ensures { λ _. ⌜ now (out .exit) ≡ leaves (writtenFloats (withoutBuoys (insertVertices (now (v .entry)) (now (buoys .entry)) (flag closed) (now (points .entry)) (now («point_buoys» .entry)) (length (now (out .entry))) (length (now («out_buoys» .entry)))))) (now (out .entry)) ⌝ }
+    ensures { λ _. ⌜ now («out_buoys» .exit) ≡ leaves (writtenBuoys (insertVertices (now (v .entry)) (now (buoys .entry)) (flag closed) (now (points .entry)) (now («point_buoys» .entry)) (length (now (out .entry))) (length (now («out_buoys» .entry))))) (now («out_buoys» .entry)) ⌝ }
+    ensures { λ _. ⌜ now (count .exit) ≡ leftIn length (insertVertices (now (v .entry)) (now (buoys .entry)) (flag closed) (now (points .entry)) (now («point_buoys» .entry)) (length (now (out .entry))) (length (now («out_buoys» .entry)))) (now (count .entry)) ⌝ }
 {
     crate::written(
-        arcstring_split::insert::insert_vertices(v, crate::is_closed(closed), points, out),
+        arcstring_split::insert::insert_vertices(
+            v,
+            buoys,
+            crate::is_closed(closed),
+            points,
+            point_buoys,
+            out,
+            out_buoys,
+        ),
         count,
     )
 }
@@ -84,25 +99,32 @@ pub extern "C" fn arcstring_split_leg(
 #[no_mangle]
 pub extern "C" fn arcstring_split(
     v: &[f64],
+    buoys: &[u32],
     closed: u8,
     points: &[f64],
+    point_buoys: &[u32],
     out: &mut [f64],
+    out_buoys: &mut [u32],
     counts: &mut [usize],
     flags: &mut [u8],
     pieces: &mut usize,
 ) -> u32
-    ensures { λ r. ⌜ r ≡ answerNumber (splitString (now (v .entry)) (flag closed) (now (points .entry)) (length (now (out .entry))) (length (now (counts .entry))) (length (now (flags .entry)))) ⌝ }
-    ensures { λ _. ⌜ now (out .exit) ≡ leaves (mapAnswer (ofPieces pieceFloats) (splitString (now (v .entry)) (flag closed) (now (points .entry)) (length (now (out .entry))) (length (now (counts .entry))) (length (now (flags .entry))))) (now (out .entry)) ⌝ }
-    ensures { λ _. ⌜ now (counts .exit) ≡ leaves (mapAnswer (ofPieces pieceCounts) (splitString (now (v .entry)) (flag closed) (now (points .entry)) (length (now (out .entry))) (length (now (counts .entry))) (length (now (flags .entry))))) (now (counts .entry)) ⌝ }
-    ensures { λ _. ⌜ now (flags .exit) ≡ leaves (mapAnswer (ofPieces pieceFlags) (splitString (now (v .entry)) (flag closed) (now (points .entry)) (length (now (out .entry))) (length (now (counts .entry))) (length (now (flags .entry))))) (now (flags .entry)) ⌝ }
-    ensures { λ _. ⌜ now (pieces .exit) ≡ leftIn piecesWritten (splitString (now (v .entry)) (flag closed) (now (points .entry)) (length (now (out .entry))) (length (now (counts .entry))) (length (now (flags .entry)))) (now (pieces .entry)) ⌝ }
+    ensures { λ r. ⌜ r ≡ answerNumber (splitString (now (v .entry)) (now (buoys .entry)) (flag closed) (now (points .entry)) (now («point_buoys» .entry)) (length (now (out .entry))) (length (now («out_buoys» .entry))) (length (now (counts .entry))) (length (now (flags .entry)))) ⌝ }
+    ensures { λ _. ⌜ now (out .exit) ≡ leaves (mapAnswer (ofPieces pieceFloats) (splitString (now (v .entry)) (now (buoys .entry)) (flag closed) (now (points .entry)) (now («point_buoys» .entry)) (length (now (out .entry))) (length (now («out_buoys» .entry))) (length (now (counts .entry))) (length (now (flags .entry))))) (now (out .entry)) ⌝ }
+    ensures { λ _. ⌜ now («out_buoys» .exit) ≡ leaves (mapAnswer (ofPieces pieceBuoys) (splitString (now (v .entry)) (now (buoys .entry)) (flag closed) (now (points .entry)) (now («point_buoys» .entry)) (length (now (out .entry))) (length (now («out_buoys» .entry))) (length (now (counts .entry))) (length (now (flags .entry))))) (now («out_buoys» .entry)) ⌝ }
+    ensures { λ _. ⌜ now (counts .exit) ≡ leaves (mapAnswer (ofPieces pieceCounts) (splitString (now (v .entry)) (now (buoys .entry)) (flag closed) (now (points .entry)) (now («point_buoys» .entry)) (length (now (out .entry))) (length (now («out_buoys» .entry))) (length (now (counts .entry))) (length (now (flags .entry))))) (now (counts .entry)) ⌝ }
+    ensures { λ _. ⌜ now (flags .exit) ≡ leaves (mapAnswer (ofPieces pieceFlags) (splitString (now (v .entry)) (now (buoys .entry)) (flag closed) (now (points .entry)) (now («point_buoys» .entry)) (length (now (out .entry))) (length (now («out_buoys» .entry))) (length (now (counts .entry))) (length (now (flags .entry))))) (now (flags .entry)) ⌝ }
+    ensures { λ _. ⌜ now (pieces .exit) ≡ leftIn piecesWritten (splitString (now (v .entry)) (now (buoys .entry)) (flag closed) (now (points .entry)) (now («point_buoys» .entry)) (length (now (out .entry))) (length (now («out_buoys» .entry))) (length (now (counts .entry))) (length (now (flags .entry)))) (now (pieces .entry)) ⌝ }
 {
     cut(
         arcstring_split::split::split_arcstring_at_points(
             v,
+            buoys,
             crate::is_closed(closed),
             points,
+            point_buoys,
             out,
+            out_buoys,
             counts,
             flags,
         ),

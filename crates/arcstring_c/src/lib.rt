@@ -8,8 +8,8 @@ ghost use lib.ListN.{length};
 ghost use Rattle.arcstring.specs.Answer.{leaves, pick, flagNumber};
 ghost use Rattle.arcstring.specs.Points.{point};
 ghost use Rattle.arcstring.specs.Point.{equalPoints, coplanarPoints, builtPoint, decidedAnswer};
-ghost use Rattle.arcstring.specs.Build.{build, buildFlagged, builtFloats};
-ghost use Rattle.arcstring.specs.Walk.{walkBack, restart, writtenAnswer, writtenFloats};
+ghost use Rattle.arcstring.specs.Build.{build, buildFlagged, builtFloats, builtBuoys};
+ghost use Rattle.arcstring.specs.Walk.{walkBack, restart, writtenAnswer, writtenFloats, withoutBuoys, writtenBuoys};
 ghost use Rattle.arcstring_crossing.specs.Crossing.{leg, legOf, classNumber, pairPoint, pairKept, arcsCrossing};
 ghost use Rattle.arcstring_crossing.specs.Listing.{counted, crossings, legCrossings, selfCrossings, crossesSelf, sameSide, listedAnswer, listedFloats, listedBytes};
 ghost use Rattle.arcstring_c.specs.Numbers.{answerNumber, leftIn, flag, threeFloats, legOfSix, classByte, keptByte, pointOver, pointPlace, vertexCount, closedByte, fourCounts, keptCount, listingCounts, listedKept, listedCounts, runLength, runStart};
@@ -132,16 +132,19 @@ pub extern "C" fn arcstring_point(x: f64, y: f64, z: f64, out: &mut [f64; 3]) ->
 #[no_mangle]
 pub extern "C" fn arcstring_build(
     points: &[f64],
+    buoys: &[u32],
     out: &mut [f64],
+    out_buoys: &mut [u32],
     count: &mut usize,
     closed: &mut u8,
 ) -> u32
-    ensures { λ r. ⌜ r ≡ answerNumber (build (now (points .entry)) (length (now (out .entry)))) ⌝ }
-    ensures { λ _. ⌜ now (out .exit) ≡ leaves (builtFloats (build (now (points .entry)) (length (now (out .entry))))) (now (out .entry)) ⌝ }
-    ensures { λ _. ⌜ now (count .exit) ≡ leftIn vertexCount (build (now (points .entry)) (length (now (out .entry)))) (now (count .entry)) ⌝ }
-    ensures { λ _. ⌜ now (closed .exit) ≡ leftIn closedByte (build (now (points .entry)) (length (now (out .entry)))) (now (closed .entry)) ⌝ }
+    ensures { λ r. ⌜ r ≡ answerNumber (build (now (points .entry)) (now (buoys .entry)) (length (now (out .entry))) (length (now («out_buoys» .entry)))) ⌝ }
+    ensures { λ _. ⌜ now (out .exit) ≡ leaves (builtFloats (build (now (points .entry)) (now (buoys .entry)) (length (now (out .entry))) (length (now («out_buoys» .entry))))) (now (out .entry)) ⌝ }
+    ensures { λ _. ⌜ now («out_buoys» .exit) ≡ leaves (builtBuoys (build (now (points .entry)) (now (buoys .entry)) (length (now (out .entry))) (length (now («out_buoys» .entry))))) (now («out_buoys» .entry)) ⌝ }
+    ensures { λ _. ⌜ now (count .exit) ≡ leftIn vertexCount (build (now (points .entry)) (now (buoys .entry)) (length (now (out .entry))) (length (now («out_buoys» .entry)))) (now (count .entry)) ⌝ }
+    ensures { λ _. ⌜ now (closed .exit) ≡ leftIn closedByte (build (now (points .entry)) (now (buoys .entry)) (length (now (out .entry))) (length (now («out_buoys» .entry)))) (now (closed .entry)) ⌝ }
 {
-    let r = arcstring::build::build(points, out);
+    let r = arcstring::build::build(points, buoys, out, out_buoys);
     match r {
         Built::Refused(e) => check::number(e),
         Built::String(n, c) => {
@@ -155,15 +158,18 @@ pub extern "C" fn arcstring_build(
 #[no_mangle]
 pub extern "C" fn arcstring_build_flagged(
     points: &[f64],
+    buoys: &[u32],
     closed: u8,
     out: &mut [f64],
+    out_buoys: &mut [u32],
     count: &mut usize,
 ) -> u32
-    ensures { λ r. ⌜ r ≡ answerNumber (buildFlagged (now (points .entry)) (flag closed) (length (now (out .entry)))) ⌝ }
-    ensures { λ _. ⌜ now (out .exit) ≡ leaves (builtFloats (buildFlagged (now (points .entry)) (flag closed) (length (now (out .entry))))) (now (out .entry)) ⌝ }
-    ensures { λ _. ⌜ now (count .exit) ≡ leftIn vertexCount (buildFlagged (now (points .entry)) (flag closed) (length (now (out .entry)))) (now (count .entry)) ⌝ }
+    ensures { λ r. ⌜ r ≡ answerNumber (buildFlagged (now (points .entry)) (now (buoys .entry)) (flag closed) (length (now (out .entry))) (length (now («out_buoys» .entry)))) ⌝ }
+    ensures { λ _. ⌜ now (out .exit) ≡ leaves (builtFloats (buildFlagged (now (points .entry)) (now (buoys .entry)) (flag closed) (length (now (out .entry))) (length (now («out_buoys» .entry))))) (now (out .entry)) ⌝ }
+    ensures { λ _. ⌜ now («out_buoys» .exit) ≡ leaves (builtBuoys (buildFlagged (now (points .entry)) (now (buoys .entry)) (flag closed) (length (now (out .entry))) (length (now («out_buoys» .entry))))) (now («out_buoys» .entry)) ⌝ }
+    ensures { λ _. ⌜ now (count .exit) ≡ leftIn vertexCount (buildFlagged (now (points .entry)) (now (buoys .entry)) (flag closed) (length (now (out .entry))) (length (now («out_buoys» .entry)))) (now (count .entry)) ⌝ }
 {
-    let r = arcstring::build::build_flagged(points, is_closed(closed), out);
+    let r = arcstring::build::build_flagged(points, buoys, is_closed(closed), out, out_buoys);
     match r {
         Built::Refused(e) => check::number(e),
         Built::String(n, _) => {
@@ -187,28 +193,38 @@ pub(crate) fn written(w: Written, count: &mut usize) -> u32
 }
 
 #[no_mangle]
-pub extern "C" fn arcstring_walk_back(v: &[f64], out: &mut [f64], count: &mut usize) -> u32
-    ensures { λ r. ⌜ r ≡ answerNumber (walkBack (now (v .entry)) (length (now (out .entry)))) ⌝ }
-    ensures { λ _. ⌜ now (out .exit) ≡ leaves (writtenFloats (walkBack (now (v .entry)) (length (now (out .entry))))) (now (out .entry)) ⌝ }
-    ensures { λ _. ⌜ now (count .exit) ≡ leftIn length (walkBack (now (v .entry)) (length (now (out .entry)))) (now (count .entry)) ⌝ }
+pub extern "C" fn arcstring_walk_back(
+    v: &[f64],
+    buoys: &[u32],
+    out: &mut [f64],
+    out_buoys: &mut [u32],
+    count: &mut usize,
+) -> u32
+    ensures { λ r. ⌜ r ≡ answerNumber (walkBack (now (v .entry)) (now (buoys .entry)) (length (now (out .entry))) (length (now («out_buoys» .entry)))) ⌝ }
+    ensures { λ _. ⌜ now (out .exit) ≡ leaves (writtenFloats (withoutBuoys (walkBack (now (v .entry)) (now (buoys .entry)) (length (now (out .entry))) (length (now («out_buoys» .entry)))))) (now (out .entry)) ⌝ }
+    ensures { λ _. ⌜ now («out_buoys» .exit) ≡ leaves (writtenBuoys (walkBack (now (v .entry)) (now (buoys .entry)) (length (now (out .entry))) (length (now («out_buoys» .entry))))) (now («out_buoys» .entry)) ⌝ }
+    ensures { λ _. ⌜ now (count .exit) ≡ leftIn length (walkBack (now (v .entry)) (now (buoys .entry)) (length (now (out .entry))) (length (now («out_buoys» .entry)))) (now (count .entry)) ⌝ }
 {
-    let r = arcstring::walk::walk_back(v, out);
+    let r = arcstring::walk::walk_back(v, buoys, out, out_buoys);
     written(r, count)
 }
 
 #[no_mangle]
 pub extern "C" fn arcstring_restart(
     v: &[f64],
+    buoys: &[u32],
     closed: u8,
     at: usize,
     out: &mut [f64],
+    out_buoys: &mut [u32],
     count: &mut usize,
 ) -> u32
-    ensures { λ r. ⌜ r ≡ answerNumber (restart (now (v .entry)) (flag closed) at (length (now (out .entry)))) ⌝ }
-    ensures { λ _. ⌜ now (out .exit) ≡ leaves (writtenFloats (restart (now (v .entry)) (flag closed) at (length (now (out .entry))))) (now (out .entry)) ⌝ }
-    ensures { λ _. ⌜ now (count .exit) ≡ leftIn length (restart (now (v .entry)) (flag closed) at (length (now (out .entry)))) (now (count .entry)) ⌝ }
+    ensures { λ r. ⌜ r ≡ answerNumber (restart (now (v .entry)) (now (buoys .entry)) (flag closed) at (length (now (out .entry))) (length (now («out_buoys» .entry)))) ⌝ }
+    ensures { λ _. ⌜ now (out .exit) ≡ leaves (writtenFloats (withoutBuoys (restart (now (v .entry)) (now (buoys .entry)) (flag closed) at (length (now (out .entry))) (length (now («out_buoys» .entry)))))) (now (out .entry)) ⌝ }
+    ensures { λ _. ⌜ now («out_buoys» .exit) ≡ leaves (writtenBuoys (restart (now (v .entry)) (now (buoys .entry)) (flag closed) at (length (now (out .entry))) (length (now («out_buoys» .entry))))) (now («out_buoys» .entry)) ⌝ }
+    ensures { λ _. ⌜ now (count .exit) ≡ leftIn length (restart (now (v .entry)) (now (buoys .entry)) (flag closed) at (length (now (out .entry))) (length (now («out_buoys» .entry)))) (now (count .entry)) ⌝ }
 {
-    let r = arcstring::walk::restart(v, is_closed(closed), at, out);
+    let r = arcstring::walk::restart(v, buoys, is_closed(closed), at, out, out_buoys);
     written(r, count)
 }
 

@@ -12,11 +12,13 @@ use lib.Ieee.{Float}
 use Rattle.sphericalpoint.specs.declared.SphericalPoint.{SphericalPoint}
 use Rattle.sphericalpoint.specs.Point.{normalizedUnlessShort}
 use Rattle.arcstring.specs.Answer.{answered, unlessRefused, pick}
-use Rattle.arcstring.specs.Points.{points, flat}
-use Rattle.arcstring.specs.Check.{storedCheck, roomCheck}
-use Rattle.arcstring.specs.Walk.{restarted, moved, walkBack, restart}
+use Rattle.arcstring.specs.declared.vertex.Vertex.{Vertex}
+use Rattle.arcstring.specs.Points.{numbered, placesOf, buoysOf, points, flat}
+use Rattle.arcstring.specs.Check.{storedCheck, stringCheck, roomCheck, roomsCheck, intoRooms, lent}
+use Rattle.arcstring.specs.Walk.{restarted, walkBack, restart}
 use Rattle.arcstring.proofs.Answers.{pass, both-passed}
 use Rattle.arcstring.proofs.Flat.{points-flat}
+use Rattle.arcstring.proofs.WithoutBuoys.{back-places, restart-places}
 use Rattle.arcstring_crossing.specs.declared.crossing.Pair.{Pair}
 use Rattle.arcstring_crossing.specs.Crossing.{Leg}
 use Rattle.arcstring_crossing.specs.Listing.{legs, pairsBetween, pairsWithin, countsOf, Mark, keptMarks, cleanPoints, Listing, listingOf, normalizedListing, inRoom, visited, counted, crossings, selfPairs, selfCrossings}
@@ -45,17 +47,18 @@ listing-counts-agree a aClosed b bClosed p m l = go (visited a aClosed b bClosed
 
 -- ---- a string's vertices moved, or left where the move is refused
 
-abbrev moveTo : Held → List SphericalPoint → Held
-moveTo s ps = record { vertices = flat ps; near = s .near; closed = s .closed }
+abbrev moveTo : Held → List Vertex → Held
+moveTo s vs = record { vertices = flat (placesOf vs); buoys = buoysOf vs; near = s .near; closed = s .closed }
 
-moved-or-left : (P : Held → Type 0) (s : Held) (ps : List SphericalPoint) (room : ℕ) → storedCheck (s .vertices) ≡ 0 → P s → P (moveTo s ps)
-    → P (replaced s (moved ps (s .vertices) room))
-unfolding moved
-moved-or-left P s ps room h left move = rw (pass (storedCheck (s .vertices)) (unlessRefused (roomCheck (length (s .vertices)) room) (answered ps)) h) (go (roomCheck (length (s .vertices)) room))
+moved-or-left : (P : Held → Type 0) (s : Held) (vs : List Vertex) (room buoyRoom : ℕ) → P s → (stringCheck (s .vertices) (s .buoys) ≡ 0 → P (moveTo s vs))
+    → P (replaced s (lent (s .vertices) (s .buoys) room buoyRoom (answered vs)))
+unfolding lent intoRooms
+moved-or-left P s vs room buoyRoom left move = go (stringCheck (s .vertices) (s .buoys)) (roomsCheck (length vs) room buoyRoom) move
   where
-    go : (n : ℕ) → P (replaced s (unlessRefused n (answered ps)))
-    go zero = move
-    go (suc n) = left
+    go : (n m : ℕ) → (n ≡ 0 → P (moveTo s vs)) → P (replaced s (unlessRefused n (unlessRefused m (answered vs))))
+    go zero zero move = move refl
+    go zero (suc m) move = left
+    go (suc n) m move = left
 
 abbrev legsOf : Held → List Leg
 legsOf s = legs (points (s .vertices)) (s .closed)
@@ -66,23 +69,28 @@ record KeptAs (s u : Held) : Type 0 where
   pairs : (ms : List Leg) → SamePairs (pairsBetween (legsOf u) ms) (pairsBetween (legsOf s) ms)
 
 module _ (s : Held) (h : storedCheck (s .vertices) ≡ 0) where
-  moved-keeps : (ps : List SphericalPoint) (room : ℕ) → List·Permᴰ ps (points (s .vertices))
-      → ((ms : List Leg) → SamePairs (pairsBetween (legs ps (s .closed)) ms) (pairsBetween (legsOf s) ms)) → KeptAs s (replaced s (moved ps (s .vertices) room))
-  moved-keeps ps room d same =
-      moved-or-left (KeptAs s) s ps room h (record { accepted = h; pairs = λ ms. Permᴰ·refl _ })
-      (record { accepted = accepted-again ps (s .vertices) d h; pairs = λ ms. rw (points-flat ps) (same ms) })
+  -- the points of the vertices vs are ps
+  moved-keeps : (vs : List Vertex) (ps : List SphericalPoint) (room buoyRoom : ℕ)
+      → (stringCheck (s .vertices) (s .buoys) ≡ 0 → placesOf vs ≡ ps) → List·Permᴰ ps (points (s .vertices))
+      → ((ms : List Leg) → SamePairs (pairsBetween (legs ps (s .closed)) ms) (pairsBetween (legsOf s) ms))
+      → KeptAs s (replaced s (lent (s .vertices) (s .buoys) room buoyRoom (answered vs)))
+  moved-keeps vs ps room buoyRoom places d same =
+      moved-or-left (KeptAs s) s vs room buoyRoom (record { accepted = h; pairs = λ ms. Permᴰ·refl _ })
+      (λ k. let e = places k in record { accepted = rw e (accepted-again ps (s .vertices) d h); pairs = λ ms. rw (e, points-flat ps) (same ms) })
 
-  backwards-keeps : (room : ℕ) → KeptAs s (walkedBack room s)
+  backwards-keeps : (room buoyRoom : ℕ) → KeptAs s (walkedBack room buoyRoom s)
   unfolding walkBack
-  backwards-keeps room =
+  backwards-keeps room buoyRoom =
       let ps = points (s .vertices) in
-      moved-keeps (reverse ps) room (Permᴰ·reverse ps) (λ ms. legs-turned (legs (reverse ps) (s .closed)) (legsOf s) ms (legs-backwards ps (s .closed)))
+      moved-keeps (reverse (numbered ps (s .buoys))) (reverse ps) room buoyRoom (back-places (s .vertices) (s .buoys)) (Permᴰ·reverse ps)
+      (λ ms. legs-turned (legs (reverse ps) (s .closed)) (legsOf s) ms (legs-backwards ps (s .closed)))
 
-  restart-keeps : (k room : ℕ) → KeptAs s (restartedAt k room s)
+  restart-keeps : (k room buoyRoom : ℕ) → KeptAs s (restartedAt k room buoyRoom s)
   unfolding restart
-  restart-keeps k room =
+  restart-keeps k room buoyRoom =
       let ps = points (s .vertices) in
-      moved-keeps (restarted ps (s .closed) k) room (restarted-order ps (s .closed) k)
+      moved-keeps (restarted (numbered ps (s .buoys)) (s .closed) k) (restarted ps (s .closed) k) room buoyRoom
+      (λ a. restart-places (s .vertices) (s .buoys) a (s .closed) k) (restarted-order ps (s .closed) k)
       (λ ms. legs-in-order (legs (restarted ps (s .closed) k) (s .closed)) (legsOf s) ms (legs-restarted ps (s .closed) k))
 
 -- ---- two strings
@@ -113,8 +121,8 @@ one-changed theSecond f keeps t h =
 
 changed : (c : Change) (t : TwoStrings) → BothAccepted t → StillSame t (change c t)
 changed trade t h = record { accepted = record { one = h .two; two = h .one }; pairs = strings-traded (legsOf (t .first)) (legsOf (t .second)) }
-changed (backwards w room) t h = one-changed w (walkedBack room) (λ s a. backwards-keeps s a room) t h
-changed (restartAt w k room) t h = one-changed w (restartedAt k room) (λ s a. restart-keeps s a k room) t h
+changed (backwards w room buoyRoom) t h = one-changed w (walkedBack room buoyRoom) (λ s a. backwards-keeps s a room buoyRoom) t h
+changed (restartAt w k room buoyRoom) t h = one-changed w (restartedAt k room buoyRoom) (λ s a. restart-keeps s a k room buoyRoom) t h
 
 all-changed : (cs : List Change) (t : TwoStrings) → BothAccepted t → StillSame t (changes cs t)
 unfolding changes
@@ -153,23 +161,23 @@ record StillItself (s u : Held) : Type 0 where
   accepted : storedCheck (u .vertices) ≡ 0
   pairs : SamePairs (ownPairs u) (ownPairs s)
 
-back-itself : (s : Held) (room : ℕ) → storedCheck (s .vertices) ≡ 0 → StillItself s (walkedBack room s)
+back-itself : (s : Held) (room buoyRoom : ℕ) → storedCheck (s .vertices) ≡ 0 → StillItself s (walkedBack room buoyRoom s)
 unfolding walkBack
-back-itself s room h =
+back-itself s room buoyRoom h =
     let ps = points (s .vertices) in
-    moved-or-left (StillItself s) s (reverse ps) room h (record { accepted = h; pairs = Permᴰ·refl _ })
-    (record {
-      accepted = accepted-again (reverse ps) (s .vertices) (Permᴰ·reverse ps) h;
-      pairs = rw (points-flat (reverse ps), open-backwards ps) (within-backwards (legs ps false));
+    moved-or-left (StillItself s) s (reverse (numbered ps (s .buoys))) room buoyRoom (record { accepted = h; pairs = Permᴰ·refl _ })
+    (λ k. let e = back-places (s .vertices) (s .buoys) k in record {
+      accepted = rw e (accepted-again (reverse ps) (s .vertices) (Permᴰ·reverse ps) h);
+      pairs = rw (e, points-flat (reverse ps), open-backwards ps) (within-backwards (legs ps false));
     })
 
-all-back : (rooms : List ℕ) (s : Held) → storedCheck (s .vertices) ≡ 0 → StillItself s (walksBack rooms s)
+all-back : (rooms : List (ℕ × ℕ)) (s : Held) → storedCheck (s .vertices) ≡ 0 → StillItself s (walksBack rooms s)
 unfolding walksBack
 all-back [] s h = record { accepted = h; pairs = Permᴰ·refl _ }
-all-back (room ∷ rooms) s h =
-    let k = back-itself s room h in
-    let r = all-back rooms (walkedBack room s) (k .accepted) in
-    record { accepted = r .accepted; pairs = List·Permᴰ·trans (r .pairs) (k .pairs) }
+all-back (r ∷ rooms) s h =
+    let k = back-itself s (r .0) (r .1) h in
+    let t = all-back rooms (walkedBack (r .0) (r .1) s) (k .accepted) in
+    record { accepted = t .accepted; pairs = List·Permᴰ·trans (t .pairs) (k .pairs) }
 
 self-answer : (s : Held) → storedCheck (s .vertices) ≡ 0 → (p m : ℕ) (l : Listing) → selfCrossings (s .vertices) p m ≡ answered l
     → normalizedListing (listingOf (ownPairs s)) ≡ l

@@ -8,7 +8,8 @@ use lib.Ieee.{Float}
 use Rattle.ieee754.specs.Value.{Value, value}
 use Rattle.sphericalpoint.specs.declared.SphericalPoint.{SphericalPoint}
 use Rattle.arcstring.specs.Answer.{Answer, refused, answered}
-use Rattle.arcstring.specs.Points.{flat}
+use Rattle.arcstring.specs.declared.vertex.Vertex.{Vertex}
+use Rattle.arcstring.specs.Points.{placesOf, buoysOf, flat}
 use Rattle.arcstring.specs.Check.{storedCheck}
 use Rattle.arcstring.specs.Walk.{walkBack, restart}
 use Rattle.arcstring_crossing.specs.declared.listing.Counts.{Counts}
@@ -18,6 +19,7 @@ use Rattle.arcstring_crossing.specs.Listing.{Listing, counted, crossings
 
 pub record Held : Type 0 where
   pub vertices : List Float
+  pub buoys : List ℕ
   pub near : List Float
   pub closed : Bool
 
@@ -31,25 +33,25 @@ pub record Accepted (s : Held) : Type 0 where
 
 -- ---- changes
 
--- The strings trade places; or one of them is walked backwards, or restarted at a position, into an output list of so many floats.
+-- The strings trade places; or one of them is walked backwards, or restarted at a position, into output lists of so many floats and so many numbers.
 pub data Which : Type 0 where
   theFirst theSecond : Which
 
 pub data Change : Type 0 where
   trade : Change
-  backwards : Which → ℕ → Change
-  restartAt : Which → ℕ → ℕ → Change
+  backwards : Which → ℕ → ℕ → Change
+  restartAt : Which → ℕ → ℕ → ℕ → Change
 
--- the vertices that a walk or a restart wrote take the place of the string's; flag and near list stay; a refused one leaves the string as it was
-abbrev pub replaced : Held → Answer (List SphericalPoint) → Held
+-- the vertices and numbers that a walk or a restart wrote take the place of the string's; flag and near list stay; a refused one leaves the string as it was
+abbrev pub replaced : Held → Answer (List Vertex) → Held
 replaced s (refused n) = s
-replaced s (answered ps) = record { vertices = flat ps; near = s .near; closed = s .closed }
+replaced s (answered vs) = record { vertices = flat (placesOf vs); buoys = buoysOf vs; near = s .near; closed = s .closed }
 
-abbrev pub walkedBack : ℕ → Held → Held
-walkedBack room s = replaced s (walkBack (s .vertices) room)
+abbrev pub walkedBack : ℕ → ℕ → Held → Held
+walkedBack room buoyRoom s = replaced s (walkBack (s .vertices) (s .buoys) room buoyRoom)
 
-abbrev pub restartedAt : ℕ → ℕ → Held → Held
-restartedAt k room s = replaced s (restart (s .vertices) (s .closed) k room)
+abbrev pub restartedAt : ℕ → ℕ → ℕ → Held → Held
+restartedAt k room buoyRoom s = replaced s (restart (s .vertices) (s .buoys) (s .closed) k room buoyRoom)
 
 abbrev pub changeOne : Which → (Held → Held) → TwoStrings → TwoStrings
 changeOne theFirst f t = record { first = f (t .first); second = t .second }
@@ -57,8 +59,8 @@ changeOne theSecond f t = record { first = t .first; second = f (t .second) }
 
 abbrev pub change : Change → TwoStrings → TwoStrings
 change trade t = record { first = t .second; second = t .first }
-change (backwards w room) t = changeOne w (walkedBack room) t
-change (restartAt w k room) t = changeOne w (restartedAt k room) t
+change (backwards w room buoyRoom) t = changeOne w (walkedBack room buoyRoom) t
+change (restartAt w k room buoyRoom) t = changeOne w (restartedAt k room buoyRoom) t
 
 -- after all changes of a list, in sequence
 unfoldable pub changes : List Change → TwoStrings → TwoStrings
@@ -98,13 +100,13 @@ Demand3 = (t : TwoStrings) → Accepted (t .first) → Accepted (t .second) → 
 
 -- ---- a string against itself: backward walks alone
 
-unfoldable pub walksBack : List ℕ → Held → Held
+unfoldable pub walksBack : List (ℕ × ℕ) → Held → Held
 walksBack [] s = s
-walksBack (room ∷ rooms) s = walksBack rooms (walkedBack room s)
+walksBack (r ∷ rooms) s = walksBack rooms (walkedBack (r .0) (r .1) s)
 
 pub record SameSelfCrossings (s u : Held) : Type 0 where
   pub same-self : (p m q n : ℕ) (l k : Listing) → selfCrossings (s .vertices) p m ≡ answered l → selfCrossings (u .vertices) q n ≡ answered k
       → (l .counts ≡ k .counts) × SameCleanPoints l k
 
 abbrev pub Demand3Self : Type 0
-Demand3Self = (s : Held) → Accepted s → (rooms : List ℕ) → SameSelfCrossings s (walksBack rooms s)
+Demand3Self = (s : Held) → Accepted s → (rooms : List (ℕ × ℕ)) → SameSelfCrossings s (walksBack rooms s)

@@ -1,8 +1,9 @@
--- A simplified copy of an accepted string, as it stands in a local list after `simplify`: it is the copy of the definitions, and accepted. Assumes nothing.
+-- A simplified copy of an accepted string, as it stands in a local list after `simplify_points`: it is the copy of the definitions, and
+-- accepted. Assumes nothing.
 use mathlib.Core.Path.{_≡_, refl, sym, ap, _∙_}
 use mathlib.Core.Bool.{Bool}
-use mathlib.Core.List.{List, _++_}
-use Prim.Native.Nat.{ℕ, _*_, _/_, _≤_}
+use mathlib.Core.List.{List}
+use Prim.Native.Nat.{ℕ, _*_, _≤_}
 use native.Mathlib.Omega.{arith}
 use lib.ListN.{length, take, drop}
 use lib.Seq.{take-at}
@@ -11,8 +12,8 @@ use Rattle.sphericalpoint.specs.declared.SphericalPoint.{SphericalPoint}
 use Rattle.arcstring.specs.declared.check.Refusal.{Refusal}
 use Rattle.arcstring.specs.declared.walk.Written.{Written}
 use Rattle.arcstring.specs.declared.walk.Written.the-variants as W
-use Rattle.arcstring.specs.Answer.{Answer, refused, answered, unlessRefused, andThen, mapAnswer, leaves, refusalNumber}
-use Rattle.arcstring.specs.Points.{ArcString, points, flat, copied}
+use Rattle.arcstring.specs.Answer.{Answer, refused, answered, andThen, mapAnswer, leaves, refusalNumber}
+use Rattle.arcstring.specs.Points.{itself, ArcString, points, flat, copied}
 use Rattle.arcstring.specs.Check.{storedCheck, intoRoom}
 use Rattle.arcstring.specs.Walk.{writtenAnswer, writtenResult, writtenFloats}
 use Rattle.arcstring.proofs.Answers.{pass}
@@ -20,7 +21,7 @@ use Rattle.arcstring.proofs.Checks.{stored-whole}
 use Rattle.arcstring.proofs.Flat.{points-flat, length-flat}
 use Rattle.arcstring.proofs.Rooms.{room-into}
 use Rattle.arcstring_relation.specs.OnString.{stored}
-use Rattle.arcstring_simplify.specs.Simplify.{simplified, simplify}
+use Rattle.arcstring_simplify.specs.Simplify.{simplified, simplifyPoints}
 use Rattle.arcstring_simplify.specs.Relation.{simplifiedString}
 use Rattle.arcstring_simplify.proofs.SimplifiedAccepted.{simplified-accepted}
 
@@ -53,31 +54,33 @@ told-answered (answered qs) n old out h w =
 
 module _ (v near : List Float) (closed : Bool) (accepted : storedCheck v ≡ 0) where
   -- there is always room
-  roomy : (x : Answer (List SphericalPoint)) → simplified closed (points v) ≡ x → andThen x (intoRoom 3072) ≡ x
+  roomy : (x : Answer (List SphericalPoint)) → simplified itself closed (points v) ≡ x → andThen x (intoRoom 3072) ≡ x
   roomy (refused n) e = refl
   roomy (answered qs) e =
       room-into 3072 qs (omega (arith, length-flat qs, stored-whole (flat qs) (simplified-accepted v closed qs accepted e) .at-most))
 
-  whole : simplify v closed 3072 ≡ simplified closed (points v)
-  unfolding simplify
-  whole = pass (storedCheck v) (andThen (simplified closed (points v)) (intoRoom 3072)) accepted ∙ roomy (simplified closed (points v)) refl
+  whole : simplifyPoints v closed 3072 ≡ simplified itself closed (points v)
+  unfolding simplifyPoints
+  whole = pass (storedCheck v) (andThen (simplified itself closed (points v)) (intoRoom 3072)) accepted ∙ roomy (simplified itself closed (points v)) refl
 
   abbrev withVertices : List SphericalPoint → ArcString
   withVertices ps = record { vertices = ps; near = points v; closed = closed }
 
-  copy-is : simplifiedString (copied (stored v near closed)) ≡ mapAnswer withVertices (simplified closed (points v))
+  copy-is : simplifiedString (copied (stored v near closed)) ≡ mapAnswer withVertices (simplified itself closed (points v))
   unfolding simplifiedString copied
   copy-is = refl
 
-  module _ (r : Written) (old out : List Float) (answer : writtenAnswer r ≡ writtenResult (simplify v closed 3072)) (left : out ≡ leaves (writtenFloats (simplify v closed 3072)) old) where
+  module _ (r : Written) (old out : List Float) (answer : writtenAnswer r ≡ writtenResult (simplifyPoints v closed 3072))
+      (left : out ≡ leaves (writtenFloats (simplifyPoints v closed 3072)) old) where
     pub copy-refused : (e : Refusal) → r ≡ W.Refused e → simplifiedString (copied (stored v near closed)) ≡ refused (refusalNumber e)
     copy-refused e told =
-        let x : simplify v closed 3072 ≡ refused (refusalNumber e) = told-refused (simplify v closed 3072) (refusalNumber e) (sym (ap writtenAnswer told) ∙ answer) in
+        let x : simplifyPoints v closed 3072 ≡ refused (refusalNumber e) =
+        told-refused (simplifyPoints v closed 3072) (refusalNumber e) (sym (ap writtenAnswer told) ∙ answer) in
         copy-is ∙ ap (mapAnswer withVertices) (sym whole ∙ x)
 
     module _ (n : ℕ) (told : r ≡ W.Vertices n) where
-      standing : Standing (simplify v closed 3072) n out
-      standing = told-answered (simplify v closed 3072) n old out (sym (ap writtenAnswer told) ∙ answer) left
+      standing : Standing (simplifyPoints v closed 3072) n out
+      standing = told-answered (simplifyPoints v closed 3072) n old out (sym (ap writtenAnswer told) ∙ answer) left
 
       pub copy-accepted : storedCheck (take (3 * n) out) ≡ 0
       copy-accepted = ap storedCheck (standing .here) ∙ simplified-accepted v closed (standing .qs) accepted (sym whole ∙ standing .is)

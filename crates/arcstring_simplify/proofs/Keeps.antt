@@ -1,58 +1,57 @@
--- The walk that keeps vertices: its start, a vertex passed over, a vertex kept, and its end. Assumes nothing.
+-- The walk that keeps elements: its start, one passed over, one kept, and its end. Assumes nothing.
 use mathlib.Core.Path.{_≡_, sym, ap, ap₂, _∙_}
 use mathlib.Core.Bool.{Bool, true, false, not}
 use mathlib.Core.List.{List, [], _∷_, _++_, append-assoc, append-nil}
-use Prim.Native.Nat.{ℕ, _+_, _*_, _≤_, _<_}
+use Prim.Native.Nat.{ℕ, suc, _+_, _≤_, _<_}
+use native.Mathlib.Numerals.{add-one}
 use native.Mathlib.Omega.{arith}
-use lib.ListN.{length, take, drop, drop-of-length-le}
-use lib.Ieee.{Float}
+use lib.ListN.{length, getD, take, drop, set, drop-of-length-le}
+use lib.Seq.{take-suc, take-suc-set, drop-cons}
 use borrow.Author.Tests.{not-true, not-false}
 use Rattle.sphericalpoint.specs.declared.SphericalPoint.{SphericalPoint}
 use Rattle.arcstring.specs.Answer.{pick}
-use Rattle.arcstring.specs.Points.{points, pointAt}
-use Rattle.arcstring.specs.Splice.{splice}
-use Rattle.arcstring.proofs.Flat.{points-next, length-points}
-use Rattle.arcstring.specs.Work.{firstOfList}
-use Rattle.arcstring.proofs.Firsts.{first-points, first-copied, first-put}
 use Rattle.arcstring_simplify.specs.Simplify.{unnecessary}
 use Rattle.arcstring_simplify.specs.Kept.{keptFrom, keptVertices}
 
--- vertex 0 is copied, and the rest is to come
-pub keep-start : (v : List Float) (skip : ℕ) (old out : List Float) → 3 ≤ length v → out ≡ splice old 0 (take 3 v) → firstOfList 1 out ++ keptFrom (points v) 1 (drop (1 + skip) (points v)) ≡ keptVertices (points v) skip
-unfolding keptVertices
-keep-start v skip old out h e = ap (λ (ps : List SphericalPoint). ps ++ keptFrom (points v) 1 (drop (1 + skip) (points v))) (first-copied 1 v old out h e ∙ first-points 1 v)
+-- the points ps judge
+module _ {A : Type 0} (none : A) (ps : List SphericalPoint) (xs : List A) where
+  -- the first is kept, and the rest is to come
+  pub keep-start : (skip : ℕ) (old : List A) → 1 ≤ length xs → 1 ≤ length old
+      → take 1 (set old 0 (getD xs 0 none)) ++ keptFrom ps 1 (drop (1 + skip) xs) ≡ keptVertices ps xs skip
+  unfolding keptVertices
+  keep-start skip old h l =
+      ap (λ (ys : List A). ys ++ keptFrom ps 1 (drop (1 + skip) xs)) (take-suc-set old 0 (getD xs 0 none) l ∙ sym (take-suc xs 0 none h))
 
-module _ (v : List Float) (n k skip : ℕ) (triples : length v ≡ 3 * n) where
-  abbrev rest : List SphericalPoint
-  rest = keptFrom (points v) (k + 1) (drop (k + 1 + skip) (points v))
+  module _ (k skip : ℕ) where
+    abbrev rest : List A
+    rest = keptFrom ps (k + 1) (drop (k + 1 + skip) xs)
 
-  at-vertex : (b : Bool) → k + skip < n → unnecessary (points v) k ≡ b → keptFrom (points v) k (drop (k + skip) (points v)) ≡ pick b rest (pointAt v (k + skip) ∷ rest)
-  unfolding keptFrom
-  at-vertex b h t =
-      let e : k + skip + 1 ≡ k + 1 + skip = omega arith in
-      ap (keptFrom (points v) k) (points-next n v (k + skip) triples h ∙ ap (λ (i : ℕ). pointAt v (k + skip) ∷ drop i (points v)) e)
-      ∙ ap (λ (c : Bool). pick c rest (pointAt v (k + skip) ∷ rest)) t
+    at-element : (b : Bool) → k + skip < length xs → unnecessary ps k ≡ b → keptFrom ps k (drop (k + skip) xs) ≡ pick b rest (getD xs (k + skip) none ∷ rest)
+    unfolding keptFrom
+    at-element b h t =
+        let e : suc (k + skip) ≡ k + 1 + skip = omega arith in
+        ap (keptFrom ps k) (drop-cons xs (k + skip) none h ∙ ap (λ (i : ℕ). getD xs (k + skip) none ∷ drop i xs) e)
+        ∙ ap (λ (c : Bool). pick c rest (getD xs (k + skip) none ∷ rest)) t
 
-  -- what stands before a vertex is `kept` points of `old`, and after it `kept'` points of `out`; b is how the code judges it
-  module _ (whole : List SphericalPoint) (kept kept' : ℕ) (old out : List Float) (b : Bool) (below : k + skip < n) (test : b ≡ unnecessary (points v) k)
-      (before : firstOfList kept old ++ keptFrom (points v) k (drop (k + skip) (points v)) ≡ whole) where
-    pub pass-over : not b ≡ false → out ≡ old → kept' ≡ kept → firstOfList kept' out ++ rest ≡ whole
-    pass-over t same count =
-        ap₂ (λ (m : ℕ) (w : List Float). firstOfList m w ++ rest) count same
-        ∙ ap (λ (ps : List SphericalPoint). firstOfList kept old ++ ps) (sym (at-vertex true below (sym test ∙ not-false b t)))
-        ∙ before
+    -- what is kept before it is `kept` elements of `old`, and after it `kept'` of `out`; b is how the code judges it
+    module _ (whole : List A) (kept kept' : ℕ) (old out : List A) (b : Bool) (below : k + skip < length xs) (test : b ≡ unnecessary ps k)
+        (before : take kept old ++ keptFrom ps k (drop (k + skip) xs) ≡ whole) where
+      pub pass-over : not b ≡ false → out ≡ old → kept' ≡ kept → take kept' out ++ rest ≡ whole
+      pass-over t same count =
+          ap₂ (λ (m : ℕ) (w : List A). take m w ++ rest) count same
+          ∙ ap (λ (ys : List A). take kept old ++ ys) (sym (at-element true below (sym test ∙ not-false b t)))
+          ∙ before
 
-    pub keep-on : (put : List Float) (p : SphericalPoint) → not b ≡ true → 3 * kept + 3 ≤ length old → p ≡ pointAt v (k + skip) → put ≡ splice old (3 * kept) (p .x ∷ p .y ∷ p .z ∷ [])
-        → out ≡ put → kept' ≡ kept + 1 → firstOfList kept' out ++ rest ≡ whole
-    keep-on put p t room read stored same count =
-        ap₂ (λ (m : ℕ) (w : List Float). firstOfList m w ++ rest) count same
-        ∙ ap (λ (ps : List SphericalPoint). ps ++ rest) (first-put kept old put p room stored ∙ ap (λ (q : SphericalPoint). firstOfList kept old ++ (q ∷ [])) read)
-        ∙ append-assoc (firstOfList kept old) (pointAt v (k + skip) ∷ []) rest
-        ∙ ap (λ (ps : List SphericalPoint). firstOfList kept old ++ ps) (sym (at-vertex false below (sym test ∙ not-true b t)))
-        ∙ before
+      pub keep-on : not b ≡ true → kept < length old → out ≡ set old kept (getD xs (k + skip) none) → kept' ≡ kept + 1 → take kept' out ++ rest ≡ whole
+      keep-on t room same count =
+          let x = getD xs (k + skip) none in
+          ap₂ (λ (m : ℕ) (w : List A). take m w ++ rest) (count ∙ add-one kept) same
+          ∙ ap (λ (ys : List A). ys ++ rest) (take-suc-set old kept x room)
+          ∙ append-assoc (take kept old) (x ∷ []) rest
+          ∙ ap (λ (ys : List A). take kept old ++ ys) (sym (at-element false below (sym test ∙ not-true b t)))
+          ∙ before
 
-  pub keep-end : (front whole : List SphericalPoint) → n ≤ k + skip → front ++ keptFrom (points v) k (drop (k + skip) (points v)) ≡ whole → front ≡ whole
-  unfolding keptFrom
-  keep-end front whole h before =
-      let l : length (points v) ≤ k + skip = omega (arith, length-points n v triples) in
-      sym (append-nil front) ∙ ap (λ (ps : List SphericalPoint). front ++ keptFrom (points v) k ps) (sym (drop-of-length-le (points v) l)) ∙ before
+    pub keep-end : (front whole : List A) → length xs ≤ k + skip → front ++ keptFrom ps k (drop (k + skip) xs) ≡ whole → front ≡ whole
+    unfolding keptFrom
+    keep-end front whole h before =
+        sym (append-nil front) ∙ ap (λ (ys : List A). front ++ keptFrom ps k ys) (sym (drop-of-length-le xs h)) ∙ before

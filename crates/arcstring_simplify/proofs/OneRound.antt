@@ -2,15 +2,12 @@
 use mathlib.Core.Path.{_≡_, refl, sym, ap, _∙_}
 use mathlib.Core.Bool.{Bool, true, false, not}
 use mathlib.Core.List.{List, [], _∷_, _++_, append-nil}
-use Prim.Native.Nat.{ℕ, zero, suc, _+_, _-_, _*_, _≤_}
+use Prim.Native.Nat.{ℕ, zero, suc, _+_, _-_, _≤_}
 use native.Mathlib.Omega.{arith}
 use lib.ListN.{length, take, drop}
-use lib.Ieee.{Float}
 use borrow.Author.Tests.{not-true, not-false}
 use Rattle.sphericalpoint.specs.declared.SphericalPoint.{SphericalPoint}
 use Rattle.arcstring.specs.Answer.{Answer, refused, answered, andThen, pick}
-use Rattle.arcstring.specs.Points.{points}
-use Rattle.arcstring.proofs.Flat.{length-points}
 use Rattle.arcstring_simplify.specs.Simplify.{unnecessary, unnecessaryFrom, unnecessaryPositions, removeAll}
 use Rattle.arcstring_simplify.specs.Kept.{keptVertices}
 use Rattle.arcstring_simplify.proofs.Removals.{removed-at, removed-past-end, removed-in-turn, removed-one, kept-of-run}
@@ -43,88 +40,91 @@ last-judged ps k (suc count) =
     (ap (λ (us : List ℕ). pick (unnecessary ps k) (k ∷ us) us) (last-judged ps (k + 1) count)
     ∙ next-judged (unnecessary ps k) k (unnecessaryFrom ps (k + 1) count) (unnecessaryFrom ps (k + 1 + count) 1))
 
--- ---- one round
+-- ---- one round: the points ps judge, and the list xs, as long as ps, is what vertices are removed from
 
-kept-once : (ps : List SphericalPoint) → 1 ≤ length ps → removeAll (unnecessaryFrom ps 1 (length ps - 1)) ps ≡ answered (keptVertices ps 0)
-unfolding keptVertices
-kept-once [] h = absurd (omega arith)
-kept-once (p ∷ qs) h =
-    let e : suc (length qs) - 1 ≡ length qs = omega arith in
-    rw e (kept-of-run (p ∷ qs) 1 (p ∷ []) qs refl)
+module _ {A : Type 0} (ps : List SphericalPoint) where
+  kept-once : (xs : List A) → length ps ≡ length xs → 1 ≤ length xs → removeAll (unnecessaryFrom ps 1 (length ps - 1)) xs ≡ answered (keptVertices ps xs 0)
+  unfolding keptVertices
+  kept-once [] same h = absurd (omega arith)
+  kept-once (x ∷ xs) same h =
+      let e : length ps - 1 ≡ length xs = omega arith in
+      rw e (kept-of-run ps 1 (x ∷ []) xs refl)
 
--- of an open string, and of a closed one that needs vertex 1
-pub round-open : (ps : List SphericalPoint) → 1 ≤ length ps → removeAll (unnecessaryPositions ps false) ps ≡ answered (keptVertices ps 0)
-round-open ps h = ap (λ (us : List ℕ). removeAll us ps) (positions-open ps) ∙ kept-once ps h
+  -- of an open string, and of a closed one that needs vertex 1
+  pub round-open : (xs : List A) → length ps ≡ length xs → 1 ≤ length xs → removeAll (unnecessaryPositions ps false) xs ≡ answered (keptVertices ps xs 0)
+  round-open xs same h = ap (λ (us : List ℕ). removeAll us xs) (positions-open ps) ∙ kept-once xs same h
 
-pub round-first-needed : (ps : List SphericalPoint) → 1 ≤ length ps → unnecessary ps 1 ≡ false → removeAll (unnecessaryPositions ps true) ps ≡ answered (keptVertices ps 0)
-round-first-needed ps h t =
-    ap (λ (us : List ℕ). removeAll us ps) (positions-closed ps false t ∙ append-nil (unnecessaryFrom ps 1 (length ps - 1))) ∙ kept-once ps h
+  pub round-first-needed : (xs : List A) → length ps ≡ length xs → 1 ≤ length xs → unnecessary ps 1 ≡ false
+      → removeAll (unnecessaryPositions ps true) xs ≡ answered (keptVertices ps xs 0)
+  round-first-needed xs same h t =
+      ap (λ (us : List ℕ). removeAll us xs) (positions-closed ps false t ∙ append-nil (unnecessaryFrom ps 1 (length ps - 1))) ∙ kept-once xs same h
 
--- of a closed one whose vertex 1 is unnecessary: it goes first
-first-goes : (ps qs : List SphericalPoint) (p q : SphericalPoint) (b : Bool) → ps ≡ p ∷ q ∷ qs → unnecessary ps 1 ≡ true → unnecessary ps (length ps - 1) ≡ b
-    → removeAll (unnecessaryPositions ps true) ps ≡ andThen (removeAll (pick b (suc (length qs) ∷ []) []) (p ∷ qs)) (removeAll (unnecessaryFrom ps 1 (length qs)))
-first-goes ps qs p q b split t last =
-    let whole : length ps ≡ suc (suc (length qs)) = ap length split in
-    let count : length ps - 1 ≡ suc (length qs) = omega arith in
-    let next : 1 + length qs ≡ suc (length qs) = omega arith in
-    let end : unnecessary ps (suc (length qs)) ≡ b = rw (← count) last in
-    let positions : unnecessaryFrom ps 1 (length ps - 1) ≡ unnecessaryFrom ps 1 (length qs) ++ pick b (suc (length qs) ∷ []) [] =
-    ap (unnecessaryFrom ps 1) count ∙ last-judged ps 1 (length qs)
-    ∙ ap (λ (k : ℕ). unnecessaryFrom ps 1 (length qs) ++ unnecessaryFrom ps k 1) next
-    ∙ ap (λ (us : List ℕ). unnecessaryFrom ps 1 (length qs) ++ us) (one-judged ps (suc (length qs)) b end) in
-    let first : removeAll (1 ∷ []) ps ≡ answered (p ∷ qs) = removed-one 1 ps ∙ removed-at 1 ps (omega arith) ∙ ap (λ (l : List SphericalPoint). answered (take 1 l ++ drop 2 l)) split in
-    ap (λ (us : List ℕ). removeAll us ps) (positions-closed ps true t)
-    ∙ removed-in-turn (unnecessaryFrom ps 1 (length ps - 1)) (1 ∷ []) ps
-    ∙ ap (λ (a : Answer (List SphericalPoint)). andThen a (removeAll (unnecessaryFrom ps 1 (length ps - 1)))) first
-    ∙ ap (λ (us : List ℕ). removeAll us (p ∷ qs)) positions
-    ∙ removed-in-turn (unnecessaryFrom ps 1 (length qs)) (pick b (suc (length qs) ∷ []) []) (p ∷ qs)
+  -- of a closed one whose vertex 1 is unnecessary: it goes first
+  first-goes : (xs : List A) (p q : A) (qs : List A) (b : Bool) → xs ≡ p ∷ q ∷ qs → length ps ≡ length xs → unnecessary ps 1 ≡ true
+      → unnecessary ps (length ps - 1) ≡ b → removeAll (unnecessaryPositions ps true) xs
+      ≡ andThen (removeAll (pick b (suc (length qs) ∷ []) []) (p ∷ qs)) (removeAll (unnecessaryFrom ps 1 (length qs)))
+  first-goes xs p q qs b split same t last =
+      let whole : length xs ≡ suc (suc (length qs)) = ap length split in
+      let count : length ps - 1 ≡ suc (length qs) = omega arith in
+      let next : 1 + length qs ≡ suc (length qs) = omega arith in
+      let end : unnecessary ps (suc (length qs)) ≡ b = rw (← count) last in
+      let positions : unnecessaryFrom ps 1 (length ps - 1) ≡ unnecessaryFrom ps 1 (length qs) ++ pick b (suc (length qs) ∷ []) [] =
+      ap (unnecessaryFrom ps 1) count ∙ last-judged ps 1 (length qs)
+      ∙ ap (λ (k : ℕ). unnecessaryFrom ps 1 (length qs) ++ unnecessaryFrom ps k 1) next
+      ∙ ap (λ (us : List ℕ). unnecessaryFrom ps 1 (length qs) ++ us) (one-judged ps (suc (length qs)) b end) in
+      let first : removeAll (1 ∷ []) xs ≡ answered (p ∷ qs) =
+      removed-one 1 xs ∙ removed-at 1 xs (omega arith) ∙ ap (λ (l : List A). answered (take 1 l ++ drop 2 l)) split in
+      ap (λ (us : List ℕ). removeAll us xs) (positions-closed ps true t)
+      ∙ removed-in-turn (unnecessaryFrom ps 1 (length ps - 1)) (1 ∷ []) xs
+      ∙ ap (λ (a : Answer (List A)). andThen a (removeAll (unnecessaryFrom ps 1 (length ps - 1)))) first
+      ∙ ap (λ (us : List ℕ). removeAll us (p ∷ qs)) positions
+      ∙ removed-in-turn (unnecessaryFrom ps 1 (length qs)) (pick b (suc (length qs) ∷ []) []) (p ∷ qs)
 
--- and then the vertex after each one judged unnecessary; the last one's would lie past the end
-pub round-shifted : (ps : List SphericalPoint) → 2 ≤ length ps → unnecessary ps 1 ≡ true → unnecessary ps (length ps - 1) ≡ false
-    → removeAll (unnecessaryPositions ps true) ps ≡ answered (keptVertices ps 1)
-unfolding keptVertices removeAll
-round-shifted [] h t last = absurd (omega arith)
-round-shifted (p ∷ []) h t last = absurd (omega arith)
-round-shifted (p ∷ q ∷ qs) h t last = first-goes (p ∷ q ∷ qs) qs p q false refl t last ∙ kept-of-run (p ∷ q ∷ qs) 1 (p ∷ []) qs refl
+  -- and then the vertex after each one judged unnecessary; the last one's would lie past the end
+  pub round-shifted : (xs : List A) → length ps ≡ length xs → 2 ≤ length xs → unnecessary ps 1 ≡ true → unnecessary ps (length ps - 1) ≡ false
+      → removeAll (unnecessaryPositions ps true) xs ≡ answered (keptVertices ps xs 1)
+  unfolding keptVertices removeAll
+  round-shifted [] same h t last = absurd (omega arith)
+  round-shifted (p ∷ []) same h t last = absurd (omega arith)
+  round-shifted (p ∷ q ∷ qs) same h t last = first-goes (p ∷ q ∷ qs) p q qs false refl same t last ∙ kept-of-run ps 1 (p ∷ []) qs refl
 
-pub round-refused : (ps : List SphericalPoint) → 2 ≤ length ps → unnecessary ps 1 ≡ true → unnecessary ps (length ps - 1) ≡ true
-    → removeAll (unnecessaryPositions ps true) ps ≡ refused 5
-round-refused [] h t last = absurd (omega arith)
-round-refused (p ∷ []) h t last = absurd (omega arith)
-round-refused (p ∷ q ∷ qs) h t last =
-    let ps = p ∷ q ∷ qs in
-    let past : removeAll (suc (length qs) ∷ []) (p ∷ qs) ≡ refused 5 = removed-one (suc (length qs)) (p ∷ qs) ∙ removed-past-end (suc (length qs)) (p ∷ qs) (omega arith) in
-    first-goes ps qs p q true refl t last ∙ ap (λ (a : Answer (List SphericalPoint)). andThen a (removeAll (unnecessaryFrom ps 1 (length qs)))) past
+  pub round-refused : (xs : List A) → length ps ≡ length xs → 2 ≤ length xs → unnecessary ps 1 ≡ true → unnecessary ps (length ps - 1) ≡ true
+      → removeAll (unnecessaryPositions ps true) xs ≡ refused 5
+  round-refused [] same h t last = absurd (omega arith)
+  round-refused (p ∷ []) same h t last = absurd (omega arith)
+  round-refused (p ∷ q ∷ qs) same h t last =
+      let past : removeAll (suc (length qs) ∷ []) (p ∷ qs) ≡ refused 5 =
+      removed-one (suc (length qs)) (p ∷ qs) ∙ removed-past-end (suc (length qs)) (p ∷ qs) (omega arith) in
+      first-goes (p ∷ q ∷ qs) p q qs true refl same t last ∙ ap (λ (a : Answer (List A)). andThen a (removeAll (unnecessaryFrom ps 1 (length qs)))) past
 
--- ---- the same, for code that reads the vertices from a flat list and keeps them in another
+-- ---- the same, for code that judges vertices one by one
 
-module _ (v : List Float) (n : ℕ) (triples : length v ≡ 3 * n) (three : 3 ≤ n) (closed : Bool) where
-  abbrev Leaves : Answer (List SphericalPoint) → Type 0
-  Leaves a = a ≡ removeAll (unnecessaryPositions (points v) closed) (points v)
+module _ {A : Type 0} (ps : List SphericalPoint) (xs : List A) (same : length ps ≡ length xs) (three : 3 ≤ length xs) (closed : Bool) where
+  abbrev Leaves : Answer (List A) → Type 0
+  Leaves a = a ≡ removeAll (unnecessaryPositions ps closed) xs
 
-  flag : (c : Bool) (a : Answer (List SphericalPoint)) → closed ≡ c → removeAll (unnecessaryPositions (points v) c) (points v) ≡ a → Leaves a
-  flag c a h e = sym (ap (λ (d : Bool). removeAll (unnecessaryPositions (points v) d) (points v)) h ∙ e)
+  flag : (c : Bool) (a : Answer (List A)) → closed ≡ c → removeAll (unnecessaryPositions ps c) xs ≡ a → Leaves a
+  flag c a h e = sym (ap (λ (d : Bool). removeAll (unnecessaryPositions ps d) xs) h ∙ e)
 
-  pub left-of-open : (left : List SphericalPoint) → not closed ≡ true → left ≡ keptVertices (points v) 0 → Leaves (answered left)
-  left-of-open left h kept = flag false (answered left) (not-true closed h) (round-open (points v) (omega (arith, length-points n v triples)) ∙ ap answered (sym kept))
+  pub left-of-open : (left : List A) → not closed ≡ true → left ≡ keptVertices ps xs 0 → Leaves (answered left)
+  left-of-open left h kept = flag false (answered left) (not-true closed h) (round-open ps xs same (omega arith) ∙ ap answered (sym kept))
 
   -- how the code judges vertex 1, and the last
-  module _ (isClosed : not closed ≡ false) (first : Bool) (judged : first ≡ unnecessary (points v) 1) where
-    pub left-by-first : (left : List SphericalPoint) → not first ≡ true → left ≡ keptVertices (points v) 0 → Leaves (answered left)
+  module _ (isClosed : not closed ≡ false) (first : Bool) (judged : first ≡ unnecessary ps 1) where
+    pub left-by-first : (left : List A) → not first ≡ true → left ≡ keptVertices ps xs 0 → Leaves (answered left)
     left-by-first left h kept =
         flag true (answered left) (not-false closed isClosed)
-        (round-first-needed (points v) (omega (arith, length-points n v triples)) (sym judged ∙ not-true first h) ∙ ap answered (sym kept))
+        (round-first-needed ps xs same (omega arith) (sym judged ∙ not-true first h) ∙ ap answered (sym kept))
 
-    module _ (goes : not first ≡ false) (last : Bool) (judged-last : last ≡ unnecessary (points v) (n - 1)) where
-      at-last : (b : Bool) → last ≡ b → unnecessary (points v) (length (points v) - 1) ≡ b
-      at-last b h = let e : length (points v) ≡ n = length-points n v triples in rw e (sym judged-last ∙ h)
+    module _ (goes : not first ≡ false) (last : Bool) (judged-last : last ≡ unnecessary ps (length xs - 1)) where
+      at-last : (b : Bool) → last ≡ b → unnecessary ps (length ps - 1) ≡ b
+      at-last b h = rw same (sym judged-last ∙ h)
 
       pub left-past-end : last ≡ true → Leaves (refused 5)
       left-past-end h =
-          flag true (refused 5) (not-false closed isClosed)
-          (round-refused (points v) (omega (arith, length-points n v triples)) (sym judged ∙ not-false first goes) (at-last true h))
+          flag true (refused 5) (not-false closed isClosed) (round-refused ps xs same (omega arith) (sym judged ∙ not-false first goes) (at-last true h))
 
-      pub left-shifted : (left : List SphericalPoint) → last ≡ false → left ≡ keptVertices (points v) 1 → Leaves (answered left)
+      pub left-shifted : (left : List A) → last ≡ false → left ≡ keptVertices ps xs 1 → Leaves (answered left)
       left-shifted left h kept =
           flag true (answered left) (not-false closed isClosed)
-          (round-shifted (points v) (omega (arith, length-points n v triples)) (sym judged ∙ not-false first goes) (at-last false h) ∙ ap answered (sym kept))
+          (round-shifted ps xs same (omega arith) (sym judged ∙ not-false first goes) (at-last false h) ∙ ap answered (sym kept))

@@ -1,62 +1,74 @@
--- What a round's answer decides, for code that works on the first m vertices of a flat list and has the round's vertices in another. Assumes nothing.
+-- What a round's answer decides, for code that works on the first m elements of one list and has the round's in another. Assumes nothing.
 use mathlib.Core.Path.{_≡_, sym, ap, _∙_}
 use mathlib.Core.Bool.{Bool}
-use mathlib.Core.List.{List}
-use Prim.Native.Nat.{ℕ, _*_, _≤_, _<_}
+use mathlib.Core.List.{List, _++_, map}
+use Prim.Native.Nat.{ℕ, _≤_, _<_}
 use native.Mathlib.Omega.{arith}
-use lib.ListN.{length, take}
-use lib.Ieee.{Float}
+use lib.ListN.{length, take, drop}
+use lib.Seq.{length-take-le, take-at}
 use Rattle.sphericalpoint.specs.declared.SphericalPoint.{SphericalPoint}
 use Rattle.arcstring.specs.declared.check.Refusal.{Refusal}
 use Rattle.arcstring.specs.declared.walk.Written.{Written}
 use Rattle.arcstring.specs.declared.walk.Written.the-variants as W
-use Rattle.arcstring.specs.Answer.{Answer, refused, answered, refusalNumber}
-use Rattle.arcstring.specs.Points.{points}
-use Rattle.arcstring.specs.Splice.{splice}
-use Rattle.arcstring.specs.Work.{firstOfList, heldPoints, heldCount}
-use Rattle.arcstring.proofs.Firsts.{length-first-of-list, first-copied}
+use Rattle.arcstring.specs.Answer.{Answer, answered, refusalNumber}
+use Rattle.arcstring.specs.Positions.{Within}
+use Rattle.arcstring.specs.Work.{held, heldCount}
+use Rattle.arcstring.proofs.Numbered.{within-less}
 use Rattle.arcstring_simplify.specs.Simplify.{unnecessaryPositions, removeAll, simplified}
 use Rattle.arcstring_simplify.proofs.Rounds.{round-refuses, as-many-left, fewer-left, few-stay}
+use Rattle.arcstring_simplify.proofs.Simplified.{round-keeps, simplified-keeps}
 
 -- how many were written, where the answer is known
 pub written-at-most : (left : Written) (kept m : ℕ) → left ≡ W.Vertices kept → heldCount left ≤ m → kept ≤ m
 written-at-most left kept m told h = let e : heldCount left ≡ kept = ap heldCount told in omega arith
 
-module _ (closed : Bool) (m : ℕ) (work next : List Float) (left : Written) (whole : Answer (List SphericalPoint)) (stands : 3 * m ≤ length work) (more : 2 < m)
-    (round : heldPoints left next ≡ removeAll (unnecessaryPositions (points (take (3 * m) work)) closed) (points (take (3 * m) work)))
-    (before : simplified closed (firstOfList m work) ≡ whole) where
-  abbrev Left : Answer (List SphericalPoint) → Type 0
-  Left a = removeAll (unnecessaryPositions (firstOfList m work) closed) (firstOfList m work) ≡ a
+module _ {A : Type 0} (pt : A → SphericalPoint) (closed : Bool) (m : ℕ) (at next : List A) (left : Written) (whole : Answer (List A))
+    (stands : m ≤ length at) (more : 2 < m)
+    (round : held left next ≡ removeAll (unnecessaryPositions (map pt (take m at)) closed) (take m at))
+    (before : simplified pt closed (take m at) ≡ whole) where
+  abbrev Left : Answer (List A) → Type 0
+  Left a = removeAll (unnecessaryPositions (map pt (take m at)) closed) (take m at) ≡ a
 
-  many : 2 < length (firstOfList m work)
-  many = omega (arith, length-first-of-list m work stands)
+  long : length (take m at) ≡ m
+  long = length-take-le m at stands
 
-  round-left : (a : Answer (List SphericalPoint)) → heldPoints left next ≡ a → Left a
-  unfolding firstOfList
-  round-left a h = sym round ∙ h
+  many : 2 < length (take m at)
+  many = omega (arith, long)
 
-  pub refused-round : (e : Refusal) → left ≡ W.Refused e → heldPoints left work ≡ whole
+  pub refused-round : (e : Refusal) → left ≡ W.Refused e → held left at ≡ whole
   refused-round e told =
-      ap (λ (w : Written). heldPoints w work) told
-      ∙ sym (round-refuses closed (firstOfList m work) many (refusalNumber e) (round-left (refused (refusalNumber e)) (ap (λ (w : Written). heldPoints w next) told)))
+      ap (λ (w : Written). held w at) told
+      ∙ sym (round-refuses pt closed (take m at) many (refusalNumber e) (sym round ∙ ap (λ (w : Written). held w next) told))
       ∙ before
 
-  module _ (kept : ℕ) (told : left ≡ W.Vertices kept) (room : 3 * kept ≤ length next) where
-    kept-left : Left (answered (firstOfList kept next))
-    kept-left = round-left (answered (firstOfList kept next)) (ap (λ (w : Written). heldPoints w next) told)
+  module _ (kept : ℕ) (told : left ≡ W.Vertices kept) (room : kept ≤ length next) where
+    pub kept-left : Left (answered (take kept next))
+    kept-left = sym round ∙ ap (λ (w : Written). held w next) told
 
-    pub last-round : kept ≡ m → answered (firstOfList m work) ≡ whole
-    last-round h =
-        sym (as-many-left closed (firstOfList m work) many (firstOfList kept next) kept-left (length-first-of-list kept next room ∙ h ∙ sym (length-first-of-list m work stands)))
-        ∙ before
+    pub last-round : kept ≡ m → answered (take m at) ≡ whole
+    last-round h = sym (as-many-left pt closed (take m at) many (take kept next) kept-left (length-take-le kept next room ∙ h ∙ sym long)) ∙ before
 
-    pub next-round : (out : List Float) → (kept ≡ m → ⊥) → out ≡ splice work 0 (take (3 * kept) next) → simplified closed (firstOfList kept out) ≡ whole
-    next-round out h copied =
-        ap (simplified closed) (first-copied kept next work out room copied)
-        ∙ sym (fewer-left closed (firstOfList m work) many (firstOfList kept next) kept-left (λ e. h (sym (length-first-of-list kept next room) ∙ e ∙ length-first-of-list m work stands)))
-        ∙ before
+    -- the next round's elements are copied to the start of the list
+    module _ (out : List A) (copied : out ≡ take kept next ++ drop kept at) where
+      pub here : take kept out ≡ take kept next
+      here = ap (take kept) copied ∙ take-at (take kept next) (drop kept at) kept (length-take-le kept next room)
 
--- two vertices at most are left
-pub no-more-rounds : (closed : Bool) (m : ℕ) (work : List Float) (whole : Answer (List SphericalPoint)) → 3 * m ≤ length work → m ≤ 2 → simplified closed (firstOfList m work) ≡ whole
-    → answered (firstOfList m work) ≡ whole
-no-more-rounds closed m work whole stands few before = sym (few-stay closed (firstOfList m work) (omega (arith, length-first-of-list m work stands))) ∙ before
+      pub next-round : (kept ≡ m → ⊥) → simplified pt closed (take kept out) ≡ whole
+      next-round h =
+          ap (simplified pt closed) here
+          ∙ sym (fewer-left pt closed (take m at) many (take kept next) kept-left (λ e. h (sym (length-take-le kept next room) ∙ e ∙ long)))
+          ∙ before
+
+-- two elements at most are left
+pub no-more-rounds : {A : Type 0} (pt : A → SphericalPoint) (closed : Bool) (m : ℕ) (at : List A) (whole : Answer (List A))
+    → m ≤ length at → m ≤ 2 → simplified pt closed (take m at) ≡ whole → answered (take m at) ≡ whole
+no-more-rounds pt closed m at whole stands few before = sym (few-stay pt closed (take m at) (omega (arith, length-take-le m at stands))) ∙ before
+
+-- ---- positions stay within
+
+module _ (n : ℕ) (pt : ℕ → SphericalPoint) (closed : Bool) where
+  pub round-within : (xs ys : List ℕ) → removeAll (unnecessaryPositions (map pt xs) closed) xs ≡ answered ys → Within n xs → Within n ys
+  round-within xs ys h all = round-keeps pt (Within n) (λ k zs low high z. within-less n k zs z high) closed xs ys h all
+
+  pub simplified-within : (xs ys : List ℕ) → simplified pt closed xs ≡ answered ys → Within n xs → Within n ys
+  simplified-within xs ys h all = simplified-keeps pt (Within n) (λ k zs low high z. within-less n k zs z high) closed xs ys h all

@@ -2,10 +2,10 @@
 -- the same vertex; an open string is never refused, and a closed one only by 5. Assumes nothing.
 use mathlib.Core.Path.{_≡_, refl, sym, ap, subst, _∙_}
 use mathlib.Core.Bool.{Bool, true, false}
-use mathlib.Core.List.{List, [], _∷_, _++_}
+use mathlib.Core.List.{List, [], _∷_, _++_, map}
 use Prim.Native.Nat.{ℕ, zero, suc, _+_, _-_, _≤_, _<_}
 use native.Mathlib.Omega.{arith}
-use lib.ListN.{length, take, drop, length-append, length-drop}
+use lib.ListN.{length, take, drop, length-append, length-drop, length-map}
 use lib.Seq.{length-take-le, take-take, take-append-le}
 use lib.Dec.{ltb}
 use borrow.Author.Tests.{ltb-true}
@@ -25,150 +25,164 @@ before-last (answered x) f y h = (x, refl, h)
 same-answer : {A : Type 0} (x y : A) → answered x ≡ answered y → x ≡ y
 same-answer x y h = cc
 
--- ---- what every removal keeps
+module _ {A : Type 0} (pt : A → SphericalPoint) where
+  -- ---- what every removal keeps
 
-module _ (P : List SphericalPoint → Type 0) (step : (k : ℕ) (ps : List SphericalPoint) → 1 ≤ k → k < length ps → P ps → P (take k ps ++ drop (k + 1) ps)) where
-  one-by : (b : Bool) (k : ℕ) (ps qs : List SphericalPoint) → 1 ≤ k → ltb k (length ps) ≡ b → pick b (answered (take k ps ++ drop (k + 1) ps)) (refused 5) ≡ answered qs → P ps → P qs
-  one-by true k ps qs low t h p = subst P (same-answer (take k ps ++ drop (k + 1) ps) qs h) (step k ps low (ltb-true k (length ps) t) p)
-  one-by false k ps qs low t h p = absurd (let z : _≡_ {A = ℕ} 0 1 = cc in omega arith)
+  module _ (P : List A → Type 0) (step : (k : ℕ) (ps : List A) → 1 ≤ k → k < length ps → P ps → P (take k ps ++ drop (k + 1) ps)) where
+    one-by : (b : Bool) (k : ℕ) (ps qs : List A) → 1 ≤ k → ltb k (length ps) ≡ b
+        → pick b (answered (take k ps ++ drop (k + 1) ps)) (refused 5) ≡ answered qs → P ps → P qs
+    one-by true k ps qs low t h p = subst P (same-answer (take k ps ++ drop (k + 1) ps) qs h) (step k ps low (ltb-true k (length ps) t) p)
+    one-by false k ps qs low t h p = absurd (let z : _≡_ {A = ℕ} 0 1 = cc in omega arith)
 
-  one-keeps : (k : ℕ) (ps qs : List SphericalPoint) → 1 ≤ k → removeAt k ps ≡ answered qs → P ps → P qs
-  unfolding removeAt
-  one-keeps k ps qs low h p = one-by (ltb k (length ps)) k ps qs low refl h p
+    one-keeps : (k : ℕ) (ps qs : List A) → 1 ≤ k → removeAt k ps ≡ answered qs → P ps → P qs
+    unfolding removeAt
+    one-keeps k ps qs low h p = one-by (ltb k (length ps)) k ps qs low refl h p
 
-  run-by : (b : Bool) (k : ℕ) (us : List ℕ) (ps qs : List SphericalPoint) → 1 ≤ k → ((rs : List SphericalPoint) → removeAll us ps ≡ answered rs → P ps → P rs)
-      → removeAll (pick b (k ∷ us) us) ps ≡ answered qs → P ps → P qs
-  unfolding removeAll
-  run-by true k us ps qs low rest h p = let mid = before-last (removeAll us ps) (removeAt k) qs h in one-keeps k (mid .0) qs low (mid .2) (rest (mid .0) (mid .1) p)
-  run-by false k us ps qs low rest h p = rest qs h p
+    run-by : (b : Bool) (k : ℕ) (us : List ℕ) (ps qs : List A) → 1 ≤ k → ((rs : List A) → removeAll us ps ≡ answered rs → P ps → P rs)
+        → removeAll (pick b (k ∷ us) us) ps ≡ answered qs → P ps → P qs
+    unfolding removeAll
+    run-by true k us ps qs low rest h p =
+        let mid = before-last (removeAll us ps) (removeAt k) qs h in
+        one-keeps k (mid .0) qs low (mid .2) (rest (mid .0) (mid .1) p)
+    run-by false k us ps qs low rest h p = rest qs h p
 
-  run-keeps : (judge : List SphericalPoint) (k count : ℕ) (ps qs : List SphericalPoint) → 1 ≤ k → removeAll (unnecessaryFrom judge k count) ps ≡ answered qs → P ps → P qs
-  unfolding unnecessaryFrom removeAll
-  run-keeps judge k zero ps qs low h p = subst P (same-answer ps qs h) p
-  run-keeps judge k (suc count) ps qs low h p =
-      run-by (unnecessary judge k) k (unnecessaryFrom judge (k + 1) count) ps qs low (λ rs. run-keeps judge (k + 1) count ps rs (omega arith)) h p
+    run-keeps : (judge : List SphericalPoint) (k count : ℕ) (ps qs : List A) → 1 ≤ k → removeAll (unnecessaryFrom judge k count) ps ≡ answered qs → P ps → P qs
+    unfolding unnecessaryFrom removeAll
+    run-keeps judge k zero ps qs low h p = subst P (same-answer ps qs h) p
+    run-keeps judge k (suc count) ps qs low h p =
+        run-by (unnecessary judge k) k (unnecessaryFrom judge (k + 1) count) ps qs low (λ rs. run-keeps judge (k + 1) count ps rs (omega arith)) h p
 
-  again-keeps : (closed : Bool) (ps qs : List SphericalPoint) → removeAll (pick closed (unnecessaryFrom ps 1 1) []) ps ≡ answered qs → P ps → P qs
-  unfolding removeAll
-  again-keeps true ps qs h p = run-keeps ps 1 1 ps qs (omega arith) h p
-  again-keeps false ps qs h p = subst P (same-answer ps qs h) p
+    again-keeps : (closed : Bool) (ps qs : List A) → removeAll (pick closed (unnecessaryFrom (map pt ps) 1 1) []) ps ≡ answered qs → P ps → P qs
+    unfolding removeAll
+    again-keeps true ps qs h p = run-keeps (map pt ps) 1 1 ps qs (omega arith) h p
+    again-keeps false ps qs h p = subst P (same-answer ps qs h) p
 
-  round-keeps : (closed : Bool) (ps qs : List SphericalPoint) → removeAll (unnecessaryPositions ps closed) ps ≡ answered qs → P ps → P qs
-  unfolding unnecessaryPositions
-  round-keeps closed ps qs h p =
-      let run = unnecessaryFrom ps 1 (length ps - 1) in
-      let again = pick closed (unnecessaryFrom ps 1 1) [] in
-      let mid = before-last (removeAll again ps) (removeAll run) qs (sym (removed-in-turn run again ps) ∙ h) in
-      run-keeps ps 1 (length ps - 1) (mid .0) qs (omega arith) (mid .2) (again-keeps closed ps (mid .0) (mid .1) p)
+    pub round-keeps : (closed : Bool) (ps qs : List A) → removeAll (unnecessaryPositions (map pt ps) closed) ps ≡ answered qs → P ps → P qs
+    unfolding unnecessaryPositions
+    round-keeps closed ps qs h p =
+        let run = unnecessaryFrom (map pt ps) 1 (length (map pt ps) - 1) in
+        let again = pick closed (unnecessaryFrom (map pt ps) 1 1) [] in
+        let mid = before-last (removeAll again ps) (removeAll run) qs (sym (removed-in-turn run again ps) ∙ h) in
+        run-keeps (map pt ps) 1 (length (map pt ps) - 1) (mid .0) qs (omega arith) (mid .2) (again-keeps closed ps (mid .0) (mid .1) p)
 
-  rounds-by : (b : Bool) (more : ℕ) (closed : Bool) (ps qs : List SphericalPoint) → isSimple ps closed ≡ b → ((rs : List SphericalPoint) → rounds more closed rs ≡ answered qs → P rs → P qs)
-      → rounds (suc more) closed ps ≡ answered qs → P ps → P qs
-  rounds-by true more closed ps qs s rest h p = subst P (same-answer ps qs (sym (rounds-simple (suc more) closed ps s) ∙ h)) p
-  rounds-by false more closed ps qs s rest h p =
-      let mid = before-last (removeAll (unnecessaryPositions ps closed) ps) (rounds more closed) qs (sym (rounds-step more closed ps s) ∙ h) in
-      rest (mid .0) (mid .2) (round-keeps closed ps (mid .0) (mid .1) p)
+    rounds-by : (b : Bool) (more : ℕ) (closed : Bool) (ps qs : List A) → isSimple (map pt ps) closed ≡ b
+        → ((rs : List A) → rounds pt more closed rs ≡ answered qs → P rs → P qs)
+        → rounds pt (suc more) closed ps ≡ answered qs → P ps → P qs
+    rounds-by true more closed ps qs s rest h p = subst P (same-answer ps qs (sym (rounds-simple pt (suc more) closed ps s) ∙ h)) p
+    rounds-by false more closed ps qs s rest h p =
+        let mid = before-last (removeAll (unnecessaryPositions (map pt ps) closed) ps) (rounds pt more closed) qs (sym (rounds-step pt more closed ps s) ∙ h) in
+        rest (mid .0) (mid .2) (round-keeps closed ps (mid .0) (mid .1) p)
 
-  rounds-keep : (more : ℕ) (closed : Bool) (ps qs : List SphericalPoint) → rounds more closed ps ≡ answered qs → P ps → P qs
+    rounds-keep : (more : ℕ) (closed : Bool) (ps qs : List A) → rounds pt more closed ps ≡ answered qs → P ps → P qs
+    unfolding rounds
+    rounds-keep zero closed ps qs h p = subst P (same-answer ps qs h) p
+    rounds-keep (suc more) closed ps qs h p = rounds-by (isSimple (map pt ps) closed) more closed ps qs refl (λ rs. rounds-keep more closed rs qs) h p
+
+    pub simplified-keeps : (closed : Bool) (ps qs : List A) → simplified pt closed ps ≡ answered qs → P ps → P qs
+    unfolding simplified
+    simplified-keeps closed ps qs h p = rounds-keep (length ps) closed ps qs h p
+
+  -- ---- the length, and vertex 0
+
+  one-gone : (k : ℕ) (ps : List A) → k < length ps → length (take k ps ++ drop (k + 1) ps) ≤ length ps
+  one-gone k ps h = omega (arith, length-append (take k ps) (drop (k + 1) ps), length-take-le k ps (omega arith), length-drop (k + 1) ps)
+
+  pub simplified-no-longer : (closed : Bool) (ps qs : List A) → simplified pt closed ps ≡ answered qs → length qs ≤ length ps
+  simplified-no-longer closed ps qs h =
+      simplified-keeps (λ (rs : List A). length rs ≤ length ps) (λ k rs low high p. let l = one-gone k rs high in omega arith) closed ps qs h (omega arith)
+
+  first-after : (k : ℕ) (ps : List A) → 1 ≤ k → k < length ps → take 1 (take k ps ++ drop (k + 1) ps) ≡ take 1 ps
+  first-after k ps low high =
+      take-append-le 1 (take k ps) (drop (k + 1) ps) (omega (arith, length-take-le k ps (omega arith))) ∙ take-take 1 k ps low
+
+  pub first-vertex-stays : (closed : Bool) (ps qs : List A) → simplified pt closed ps ≡ answered qs → take 1 qs ≡ take 1 ps
+  first-vertex-stays closed ps qs h =
+      simplified-keeps (λ (rs : List A). take 1 rs ≡ take 1 ps) (λ k rs low high p. first-after k rs low high ∙ p) closed ps qs h refl
+
+  -- ---- once simplified, always simplified
+
+  simple-by : (b : Bool) (more : ℕ) (closed : Bool) (ps qs : List A) → isSimple (map pt ps) closed ≡ b
+      → ((rs : List A) → length rs + 1 ≤ length ps → rounds pt more closed rs ≡ answered qs → isSimple (map pt qs) closed ≡ true)
+      → rounds pt (suc more) closed ps ≡ answered qs → isSimple (map pt qs) closed ≡ true
+  simple-by true more closed ps qs s rest h =
+      sym (ap (λ (rs : List A). isSimple (map pt rs) closed) (same-answer ps qs (sym (rounds-simple pt (suc more) closed ps s) ∙ h))) ∙ s
+  simple-by false more closed ps qs s rest h =
+      let mid = before-last (removeAll (unnecessaryPositions (map pt ps) closed) ps) (rounds pt more closed) qs (sym (rounds-step pt more closed ps s) ∙ h) in
+      rest (mid .0) (shorter (map pt ps) closed ps s (mid .0) (mid .1)) (mid .2)
+
+  rounds-end-simple : (more : ℕ) (closed : Bool) (ps qs : List A) → length ps ≤ more
+      → rounds pt more closed ps ≡ answered qs → isSimple (map pt qs) closed ≡ true
   unfolding rounds
-  rounds-keep zero closed ps qs h p = subst P (same-answer ps qs h) p
-  rounds-keep (suc more) closed ps qs h p = rounds-by (isSimple ps closed) more closed ps qs refl (λ rs. rounds-keep more closed rs qs) h p
+  rounds-end-simple zero closed ps qs l h = few-simple (map pt qs) closed (omega (arith, length-map qs pt, ap length (same-answer ps qs h)))
+  rounds-end-simple (suc more) closed ps qs l h =
+      simple-by (isSimple (map pt ps) closed) more closed ps qs refl (λ rs e. rounds-end-simple more closed rs qs (omega arith)) h
 
-  pub simplified-keeps : (closed : Bool) (ps qs : List SphericalPoint) → simplified closed ps ≡ answered qs → P ps → P qs
+  -- two vertices at most, or none of them unnecessary
+  pub simplified-simple : (closed : Bool) (ps qs : List A) → simplified pt closed ps ≡ answered qs → isSimple (map pt qs) closed ≡ true
   unfolding simplified
-  simplified-keeps closed ps qs h p = rounds-keep (length ps) closed ps qs h p
+  simplified-simple closed ps qs h = rounds-end-simple (length ps) closed ps qs (omega arith) h
 
--- ---- the length, and vertex 0
+  pub simplified-again : (closed : Bool) (ps qs : List A) → simplified pt closed ps ≡ answered qs → simplified pt closed qs ≡ answered qs
+  simplified-again closed ps qs h = simple-stays pt closed qs (simplified-simple closed ps qs h)
 
-one-gone : (k : ℕ) (ps : List SphericalPoint) → k < length ps → length (take k ps ++ drop (k + 1) ps) ≤ length ps
-one-gone k ps h = omega (arith, length-append (take k ps) (drop (k + 1) ps), length-take-le k ps (omega arith), length-drop (k + 1) ps)
+  -- ---- what is refused
 
-pub simplified-no-longer : (closed : Bool) (ps qs : List SphericalPoint) → simplified closed ps ≡ answered qs → length qs ≤ length ps
-simplified-no-longer closed ps qs h =
-    simplified-keeps (λ (rs : List SphericalPoint). length rs ≤ length ps) (λ k rs low high p. let l = one-gone k rs high in omega arith) closed ps qs h (omega arith)
+  open-by : (b : Bool) (more : ℕ) (ps : List A) → isSimple (map pt ps) false ≡ b → ((rs : List A) → (qs : List A) × (rounds pt more false rs ≡ answered qs))
+      → (qs : List A) × (rounds pt (suc more) false ps ≡ answered qs)
+  open-by true more ps s rest = (ps, rounds-simple pt (suc more) false ps s)
+  open-by false more ps s rest =
+      let left = keptVertices (map pt ps) ps 0 in
+      let three = not-simple (map pt ps) false s .0 in
+      let on = rest left in (
+        on .0,
+        rounds-step pt more false ps s
+            ∙ ap (λ (a : Answer (List A)). andThen a (rounds pt more false)) (round-open (map pt ps) ps (length-map ps pt) (omega (arith, length-map ps pt)))
+            ∙ on .1,
+      )
 
-first-after : (k : ℕ) (ps : List SphericalPoint) → 1 ≤ k → k < length ps → take 1 (take k ps ++ drop (k + 1) ps) ≡ take 1 ps
-first-after k ps low high =
-    take-append-le 1 (take k ps) (drop (k + 1) ps) (omega (arith, length-take-le k ps (omega arith))) ∙ take-take 1 k ps low
+  open-rounds : (more : ℕ) (ps : List A) → (qs : List A) × (rounds pt more false ps ≡ answered qs)
+  unfolding rounds
+  open-rounds zero ps = (ps, refl)
+  open-rounds (suc more) ps = open-by (isSimple (map pt ps) false) more ps refl (open-rounds more)
 
-pub first-vertex-stays : (closed : Bool) (ps qs : List SphericalPoint) → simplified closed ps ≡ answered qs → take 1 qs ≡ take 1 ps
-first-vertex-stays closed ps qs h =
-    simplified-keeps (λ (rs : List SphericalPoint). take 1 rs ≡ take 1 ps) (λ k rs low high p. first-after k rs low high ∙ p) closed ps qs h refl
+  -- an open string is simplified to some string, whatever it is
+  pub open-never-refused : (ps : List A) → (qs : List A) × (simplified pt false ps ≡ answered qs)
+  unfolding simplified
+  open-never-refused ps = open-rounds (length ps) ps
 
--- ---- once simplified, always simplified
+  same-refusal : {B : Type 0} (m n : ℕ) → _≡_ {A = Answer B} (refused m) (refused n) → m ≡ n
+  same-refusal m n h = cc
 
-simple-by : (b : Bool) (more : ℕ) (closed : Bool) (ps qs : List SphericalPoint) → isSimple ps closed ≡ b
-    → ((rs : List SphericalPoint) → length rs + 1 ≤ length ps → rounds more closed rs ≡ answered qs → isSimple qs closed ≡ true) → rounds (suc more) closed ps ≡ answered qs
-    → isSimple qs closed ≡ true
-simple-by true more closed ps qs s rest h =
-    sym (ap (λ (rs : List SphericalPoint). isSimple rs closed) (same-answer ps qs (sym (rounds-simple (suc more) closed ps s) ∙ h))) ∙ s
-simple-by false more closed ps qs s rest h =
-    let mid = before-last (removeAll (unnecessaryPositions ps closed) ps) (rounds more closed) qs (sym (rounds-step more closed ps s) ∙ h) in
-    rest (mid .0) (shorter ps closed s (mid .0) (mid .1)) (mid .2)
+  -- a refusal is that of the first step, or of the second
+  either-refuses : {B C : Type 0} (a : Answer B) (f : B → Answer C) → ((n : ℕ) → a ≡ refused n → n ≡ 5)
+      → ((x : B) (n : ℕ) → f x ≡ refused n → n ≡ 5) → (n : ℕ) → andThen a f ≡ refused n → n ≡ 5
+  either-refuses (refused m) f first then n h = let e : m ≡ n = same-refusal m n h in sym e ∙ first m refl
+  either-refuses (answered x) f first then n h = then x n h
 
-rounds-end-simple : (more : ℕ) (closed : Bool) (ps qs : List SphericalPoint) → length ps ≤ more → rounds more closed ps ≡ answered qs → isSimple qs closed ≡ true
-unfolding rounds
-rounds-end-simple zero closed ps qs l h = few-simple qs closed (omega (arith, ap length (same-answer ps qs h)))
-rounds-end-simple (suc more) closed ps qs l h = simple-by (isSimple ps closed) more closed ps qs refl (λ rs e. rounds-end-simple more closed rs qs (omega arith)) h
+  one-refuses : (b : Bool) (x : List A) (n : ℕ) → pick b (answered x) (refused 5) ≡ refused n → n ≡ 5
+  one-refuses true x n h = absurd (let z : _≡_ {A = ℕ} 0 1 = cc in omega arith)
+  one-refuses false x n h = sym (same-refusal 5 n h)
 
--- two vertices at most, or none of them unnecessary
-pub simplified-simple : (closed : Bool) (ps qs : List SphericalPoint) → simplified closed ps ≡ answered qs → isSimple qs closed ≡ true
-unfolding simplified
-simplified-simple closed ps qs h = rounds-end-simple (length ps) closed ps qs (omega arith) h
+  all-refuse : (us : List ℕ) (ps : List A) (n : ℕ) → removeAll us ps ≡ refused n → n ≡ 5
+  unfolding removeAll removeAt
+  all-refuse [] ps n h = absurd (let z : _≡_ {A = ℕ} 0 1 = cc in omega arith)
+  all-refuse (u ∷ us) ps n h =
+      either-refuses (removeAll us ps) (removeAt u) (all-refuse us ps) (λ qs m e. one-refuses (ltb u (length qs)) (take u qs ++ drop (u + 1) qs) m e) n h
 
-pub simplified-again : (closed : Bool) (ps qs : List SphericalPoint) → simplified closed ps ≡ answered qs → simplified closed qs ≡ answered qs
-simplified-again closed ps qs h = simple-stays closed qs (simplified-simple closed ps qs h)
+  rounds-refuse-by : (b : Bool) (more : ℕ) (closed : Bool) (ps : List A) (n : ℕ) → isSimple (map pt ps) closed ≡ b
+      → ((rs : List A) (m : ℕ) → rounds pt more closed rs ≡ refused m → m ≡ 5)
+      → rounds pt (suc more) closed ps ≡ refused n → n ≡ 5
+  rounds-refuse-by true more closed ps n s rest h = absurd (let e = rounds-simple pt (suc more) closed ps s in let z : _≡_ {A = ℕ} 0 1 = cc in omega arith)
+  rounds-refuse-by false more closed ps n s rest h =
+      either-refuses (removeAll (unnecessaryPositions (map pt ps) closed) ps) (rounds pt more closed)
+      (all-refuse (unnecessaryPositions (map pt ps) closed) ps) rest n (sym (rounds-step pt more closed ps s) ∙ h)
 
--- ---- what is refused
+  rounds-refuse : (more : ℕ) (closed : Bool) (ps : List A) (n : ℕ) → rounds pt more closed ps ≡ refused n → n ≡ 5
+  unfolding rounds
+  rounds-refuse zero closed ps n h = absurd (let z : _≡_ {A = ℕ} 0 1 = cc in omega arith)
+  rounds-refuse (suc more) closed ps n h = rounds-refuse-by (isSimple (map pt ps) closed) more closed ps n refl (rounds-refuse more closed) h
 
-open-by : (b : Bool) (more : ℕ) (ps : List SphericalPoint) → isSimple ps false ≡ b → ((rs : List SphericalPoint) → (qs : List SphericalPoint) × (rounds more false rs ≡ answered qs))
-    → (qs : List SphericalPoint) × (rounds (suc more) false ps ≡ answered qs)
-open-by true more ps s rest = (ps, rounds-simple (suc more) false ps s)
-open-by false more ps s rest =
-    let left = keptVertices ps 0 in
-    let three = not-simple ps false s .0 in
-    let on = rest left in
-    (on .0, rounds-step more false ps s ∙ ap (λ (a : Answer (List SphericalPoint)). andThen a (rounds more false)) (round-open ps (omega arith)) ∙ on .1)
-
-open-rounds : (more : ℕ) (ps : List SphericalPoint) → (qs : List SphericalPoint) × (rounds more false ps ≡ answered qs)
-unfolding rounds
-open-rounds zero ps = (ps, refl)
-open-rounds (suc more) ps = open-by (isSimple ps false) more ps refl (open-rounds more)
-
--- an open string is simplified to some string, whatever it is
-pub open-never-refused : (ps : List SphericalPoint) → (qs : List SphericalPoint) × (simplified false ps ≡ answered qs)
-unfolding simplified
-open-never-refused ps = open-rounds (length ps) ps
-
-same-refusal : {A : Type 0} (m n : ℕ) → _≡_ {A = Answer A} (refused m) (refused n) → m ≡ n
-same-refusal m n h = cc
-
--- a refusal is that of the first step, or of the second
-either-refuses : {A B : Type 0} (a : Answer A) (f : A → Answer B) → ((n : ℕ) → a ≡ refused n → n ≡ 5) → ((x : A) (n : ℕ) → f x ≡ refused n → n ≡ 5) → (n : ℕ) → andThen a f ≡ refused n → n ≡ 5
-either-refuses (refused m) f first then n h = let e : m ≡ n = same-refusal m n h in sym e ∙ first m refl
-either-refuses (answered x) f first then n h = then x n h
-
-one-refuses : (b : Bool) (x : List SphericalPoint) (n : ℕ) → pick b (answered x) (refused 5) ≡ refused n → n ≡ 5
-one-refuses true x n h = absurd (let z : _≡_ {A = ℕ} 0 1 = cc in omega arith)
-one-refuses false x n h = sym (same-refusal 5 n h)
-
-all-refuse : (us : List ℕ) (ps : List SphericalPoint) (n : ℕ) → removeAll us ps ≡ refused n → n ≡ 5
-unfolding removeAll removeAt
-all-refuse [] ps n h = absurd (let z : _≡_ {A = ℕ} 0 1 = cc in omega arith)
-all-refuse (u ∷ us) ps n h =
-    either-refuses (removeAll us ps) (removeAt u) (all-refuse us ps) (λ qs m e. one-refuses (ltb u (length qs)) (take u qs ++ drop (u + 1) qs) m e) n h
-
-rounds-refuse-by : (b : Bool) (more : ℕ) (closed : Bool) (ps : List SphericalPoint) (n : ℕ) → isSimple ps closed ≡ b → ((rs : List SphericalPoint) (m : ℕ) → rounds more closed rs ≡ refused m → m ≡ 5)
-    → rounds (suc more) closed ps ≡ refused n → n ≡ 5
-rounds-refuse-by true more closed ps n s rest h = absurd (let e = rounds-simple (suc more) closed ps s in let z : _≡_ {A = ℕ} 0 1 = cc in omega arith)
-rounds-refuse-by false more closed ps n s rest h =
-    either-refuses (removeAll (unnecessaryPositions ps closed) ps) (rounds more closed) (all-refuse (unnecessaryPositions ps closed) ps) rest n (sym (rounds-step more closed ps s) ∙ h)
-
-rounds-refuse : (more : ℕ) (closed : Bool) (ps : List SphericalPoint) (n : ℕ) → rounds more closed ps ≡ refused n → n ≡ 5
-unfolding rounds
-rounds-refuse zero closed ps n h = absurd (let z : _≡_ {A = ℕ} 0 1 = cc in omega arith)
-rounds-refuse (suc more) closed ps n h = rounds-refuse-by (isSimple ps closed) more closed ps n refl (rounds-refuse more closed) h
-
--- a closed one is refused by 5 or not at all
-pub refused-by-five : (closed : Bool) (ps : List SphericalPoint) (n : ℕ) → simplified closed ps ≡ refused n → n ≡ 5
-unfolding simplified
-refused-by-five closed ps n h = rounds-refuse (length ps) closed ps n h
+  -- a closed one is refused by 5 or not at all
+  pub refused-by-five : (closed : Bool) (ps : List A) (n : ℕ) → simplified pt closed ps ≡ refused n → n ≡ 5
+  unfolding simplified
+  refused-by-five closed ps n h = rounds-refuse (length ps) closed ps n h

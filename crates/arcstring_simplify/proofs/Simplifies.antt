@@ -1,51 +1,177 @@
--- The call that simplifies a stored string: what it answers where the string is refused, and where its rounds are done. Assumes nothing.
-use mathlib.Core.Path.{_≡_, sym, ap, _∙_}
-use mathlib.Core.Bool.{Bool}
-use mathlib.Core.List.{List}
-use Prim.Native.Nat.{ℕ, _*_, _/_}
+-- The calls that simplify a stored string, by the positions that are left: with numbers, and the points alone. Assumes nothing.
+use mathlib.Core.Path.{_≡_, refl, sym, ap, subst, _∙_}
+use mathlib.Core.Bool.{Bool, true, false, _||_}
+use mathlib.Core.List.{List, _++_, map, map-map}
+use Prim.Native.Nat.{ℕ, _+_, _*_, _/_, _≤_, _<_}
 use native.Mathlib.Omega.{arith}
-use lib.ListN.{length, take}
+use lib.ListN.{length, take, drop, length-map}
+use lib.Seq.{length-take-le, take-at}
+use lib.Dec.{ltb}
 use lib.Ieee.{Float}
 use Rattle.sphericalpoint.specs.declared.SphericalPoint.{SphericalPoint}
 use Rattle.arcstring.specs.declared.check.Refusal.{Refusal}
 use Rattle.arcstring.specs.declared.check.Checked.{Checked}
 use Rattle.arcstring.specs.declared.check.Checked.the-variants.{Accepted, Refused}
 use Rattle.arcstring.specs.declared.walk.Written.{Written}
-use Rattle.arcstring.specs.Answer.{Answer, refused, andThen, leaves, refusalNumber}
-use Rattle.arcstring.specs.Points.{points}
-use Rattle.arcstring.specs.Splice.{splice}
-use Rattle.arcstring.specs.Check.{checkNumber, storedCheck, intoRoom}
-use Rattle.arcstring.specs.Walk.{writtenResult, writtenFloats}
+use Rattle.arcstring.specs.declared.walk.Written.the-variants as W
+use Rattle.arcstring.specs.Answer.{Answer, refused, answered, mapAnswer, andThen, leaves, refusalNumber}
+use Rattle.arcstring.specs.declared.vertex.Vertex.{Vertex}
+use Rattle.arcstring.specs.Points.{itself, numbered, placeOf, points, flat, pointAt}
+use Rattle.arcstring.specs.Positions.{Within, positionsFrom, buoyAt, vertexAt}
+use Rattle.arcstring.specs.Check.{checkNumber, storedCheck, stringCheck, intoRoom, intoRooms, lent}
+use Rattle.arcstring.specs.Walk.{writtenAnswer, writtenResult, writtenFloats}
+use Rattle.arcstring.specs.Work.{held}
 use Rattle.arcstring.proofs.Answers.{answer-refused, answer-accepted}
-use Rattle.arcstring.proofs.Checks.{stored-whole}
-use Rattle.arcstring.specs.Work.{firstOfList, heldPoints}
-use Rattle.arcstring.proofs.Firsts.{first-whole, first-copied}
-use Rattle.arcstring_simplify.specs.Simplify.{simplified, simplify}
+use Rattle.arcstring.proofs.Checks.{stored-whole, string-stored, as-many-buoys}
+use Rattle.arcstring.proofs.Flat.{length-flat}
+use Rattle.arcstring.proofs.Rooms.{no-room-into, room-into}
+use Rattle.arcstring.proofs.Moves.{length-positions}
+use Rattle.arcstring.proofs.Numbered.{all-point-positions, within-positions}
+use Rattle.arcstring.proofs.Written.{Leaves, left-refused, left-written, no-rooms, rooms-enough}
+use Rattle.arcstring_simplify.specs.Simplify.{simplified, simplify, simplifyPoints}
+use Rattle.arcstring_simplify.proofs.Natural.{map-simplified, at-positions}
+use Rattle.arcstring_simplify.proofs.RoundSteps.{simplified-within}
 
-module _ (v : List Float) (closed : Bool) (old : List Float) (k : Checked) (check : checkNumber k ≡ storedCheck v) where
-  -- what is answered, and what the buffer then holds
+-- ---- all positions, before the first round
+
+module _ (n : ℕ) (old at : List ℕ) (wrote : at ≡ positionsFrom 0 n ++ drop n old) where
+  pub fresh : take n at ≡ positionsFrom 0 n
+  fresh = ap (take n) wrote ∙ take-at (positionsFrom 0 n) (drop n old) n (length-positions 0 n)
+
+  pub fresh-within : Within n (take n at)
+  fresh-within = let z : 0 + n ≡ n = omega arith in subst (λ (xs : List ℕ). Within n xs) (sym fresh) (rw z at (within-positions 0 n))
+
+-- ---- the positions that are left
+
+-- `left` is what the code was told, and `at` the list whose first positions are left
+module _ (v : List Float) (closed : Bool) (at : List ℕ) (left : Written)
+    (rounds : held left at ≡ simplified (pointAt v) closed (positionsFrom 0 (length v / 3))) where
+  -- each is a vertex of the string
+  pub left-within : (n : ℕ) → left ≡ W.Vertices n → Within (length v / 3) (take n at)
+  left-within n told =
+      let z : 0 + length v / 3 ≡ length v / 3 = omega arith in
+      simplified-within (length v / 3) (pointAt v) closed (positionsFrom 0 (length v / 3)) (take n at)
+      (sym rounds ∙ ap (λ (w : Written). held w at) told) (rw z at (within-positions 0 (length v / 3)))
+
+  -- what stands there is the simplified string
+  module _ (whole : length v ≡ 3 * (length v / 3)) where
+    pub left-vertices : (bs : List ℕ) → length bs ≡ length v / 3
+        → mapAnswer (map (vertexAt v bs)) (held left at) ≡ simplified placeOf closed (numbered (points v) bs)
+    left-vertices bs same =
+        ap (mapAnswer (map (vertexAt v bs))) rounds ∙ at-positions v bs closed whole same
+
+    pub left-points : mapAnswer (map (pointAt v)) (held left at) ≡ simplified itself closed (points v)
+    left-points =
+        ap (mapAnswer (map (pointAt v))) rounds
+        ∙ map-simplified (pointAt v) (pointAt v) itself (λ i. refl) closed (positionsFrom 0 (length v / 3))
+        ∙ ap (simplified itself closed) (all-point-positions v (length v / 3) whole)
+
+-- ---- with numbers
+
+module _ (v : List Float) (bs : List ℕ) (closed : Bool) (old : List Float) (oldBuoys : List ℕ) (k : Checked) (number : checkNumber k ≡ stringCheck v bs) where
+  abbrev Done : Answer (List Vertex)
+  Done = simplify v bs closed (length old) (length oldBuoys)
+
+  pub simplify-refused : (e : Refusal) → k ≡ Refused e → Leaves old oldBuoys Done (refused (refusalNumber e)) old oldBuoys
+  unfolding simplify lent
+  simplify-refused e told = left-refused old oldBuoys Done (refusalNumber e) (answer-refused k e (stringCheck v bs) _ told number)
+
+  module _ (told : k ≡ Accepted) where
+    passed : stringCheck v bs ≡ 0
+    passed = sym number ∙ ap checkNumber told
+
+    pub string-accepted : storedCheck v ≡ 0
+    string-accepted = string-stored v bs passed
+
+    pub same-buoys : length bs ≡ length v / 3
+    same-buoys = as-many-buoys v bs passed
+
+    module _ (at : List ℕ) (left : Written) (rounds : held left at ≡ simplified (pointAt v) closed (positionsFrom 0 (length v / 3))) where
+      done-by : (a : Answer (List ℕ)) → held left at ≡ a → andThen (mapAnswer (map (vertexAt v bs)) a) (intoRooms (length old) (length oldBuoys)) ≡ Done
+      unfolding simplify lent
+      done-by a h =
+          ap (λ (x : Answer (List Vertex)). andThen x (intoRooms (length old) (length oldBuoys)))
+          (ap (mapAnswer (map (vertexAt v bs))) (sym h) ∙ left-vertices v closed at left rounds (stored-whole v string-accepted .triples) bs same-buoys)
+          ∙ answer-accepted k (stringCheck v bs) _ told number
+
+      pub simplify-past-end : (e : Refusal) → left ≡ W.Refused e → Leaves old oldBuoys Done (writtenAnswer left) old oldBuoys
+      simplify-past-end e h =
+          let l = left-refused old oldBuoys Done (refusalNumber e) (done-by (refused (refusalNumber e)) (ap (λ (w : Written). held w at) h)) in
+          (ap writtenAnswer h ∙ l .0, l .1)
+
+      module _ (n : ℕ) (h : left ≡ W.Vertices n) (room : n ≤ length at) where
+        abbrev vs : List Vertex
+        vs = map (vertexAt v bs) (take n at)
+
+        long : length vs ≡ n
+        long = length-map (take n at) (vertexAt v bs) ∙ length-take-le n at room
+
+        into : intoRooms (length old) (length oldBuoys) vs ≡ Done
+        into = done-by (answered (take n at)) (ap (λ (w : Written). held w at) h)
+
+        pub simplify-no-room : ltb (length old) (3 * n) || ltb (length oldBuoys) n ≡ true → Leaves old oldBuoys Done (refused 7) old oldBuoys
+        simplify-no-room t = left-refused old oldBuoys Done 7 (sym (no-rooms (length old) (length oldBuoys) vs n long t) ∙ into)
+
+        pub simplify-done : (out : List Float) (outBuoys : List ℕ) → ltb (length old) (3 * n) || ltb (length oldBuoys) n ≡ false
+            → out ≡ flat (map (pointAt v) (take n at)) ++ drop (3 * length (take n at)) old
+            → outBuoys ≡ map (buoyAt bs) (take n at) ++ drop (length (take n at)) oldBuoys
+            → Leaves old oldBuoys Done (answered n) out outBuoys
+        simplify-done out outBuoys t w u =
+            let l : length (take n at) ≡ n = length-take-le n at room in
+            left-written old oldBuoys Done vs n (map (pointAt v) (take n at)) (map (buoyAt bs) (take n at)) out outBuoys
+            (sym (rooms-enough (length old) (length oldBuoys) vs n long t) ∙ into) long
+            (map-map placeOf (vertexAt v bs) (take n at)) (map-map (λ (x : Vertex). x .buoy) (vertexAt v bs) (take n at))
+            (w ∙ ap (λ (m : ℕ). flat (map (pointAt v) (take n at)) ++ drop (3 * m) old) l)
+            (u ∙ ap (λ (m : ℕ). map (buoyAt bs) (take n at) ++ drop m oldBuoys) l)
+
+-- ---- the points alone
+
+module _ (v : List Float) (closed : Bool) (old : List Float) (k : Checked) (number : checkNumber k ≡ storedCheck v) where
+  abbrev DonePoints : Answer (List SphericalPoint)
+  DonePoints = simplifyPoints v closed (length old)
+
   abbrev Answers : Answer ℕ → List Float → Type 0
-  Answers r out = (r ≡ writtenResult (simplify v closed (length old))) × (out ≡ leaves (writtenFloats (simplify v closed (length old))) old)
+  Answers r out = (r ≡ writtenResult DonePoints) × (out ≡ leaves (writtenFloats DonePoints) old)
 
-  by-answer : (a : Answer (List SphericalPoint)) (r : Answer ℕ) (out : List Float) → a ≡ simplify v closed (length old) → r ≡ writtenResult a → out ≡ leaves (writtenFloats a) old → Answers r out
-  by-answer a r out h p q = (p ∙ ap writtenResult h, q ∙ ap (λ (b : Answer (List SphericalPoint)). leaves (writtenFloats b) old) h)
+  by-answer : (a : Answer (List SphericalPoint)) → a ≡ DonePoints → Answers (writtenResult a) (leaves (writtenFloats a) old)
+  by-answer a h = (ap writtenResult h, ap (λ (b : Answer (List SphericalPoint)). leaves (writtenFloats b) old) h)
 
-  pub simplify-refused : (e : Refusal) → k ≡ Refused e → Answers (refused (refusalNumber e)) old
-  unfolding simplify
-  simplify-refused e told =
-      let a : Answer (List SphericalPoint) = refused (refusalNumber e) in
-      let h : a ≡ simplify v closed (length old) = answer-refused k e (storedCheck v) (andThen (simplified closed (points v)) (intoRoom (length old))) told check in
-      (ap writtenResult h, ap (λ (b : Answer (List SphericalPoint)). leaves (writtenFloats b) old) h)
+  pub points-refused : (e : Refusal) → k ≡ Refused e → Answers (refused (refusalNumber e)) old
+  unfolding simplifyPoints
+  points-refused e told = by-answer (refused (refusalNumber e)) (answer-refused k e (storedCheck v) _ told number)
 
-  pub simplify-done : (empty copied work : List Float) (left : Written) (r : Answer ℕ) (out : List Float) → k ≡ Accepted → copied ≡ splice empty 0 (take (3 * (length v / 3)) v)
-      → heldPoints left work ≡ simplified closed (firstOfList (length v / 3) copied) → r ≡ writtenResult (andThen (heldPoints left work) (intoRoom (length old)))
-      → out ≡ leaves (writtenFloats (andThen (heldPoints left work) (intoRoom (length old)))) old → Answers r out
-  unfolding simplify
-  simplify-done empty copied work left r out told copy rounds p q =
-      let n = length v / 3 in
-      let whole : length v ≡ 3 * n = stored-whole v (sym check ∙ ap checkNumber told) .triples in
-      let same : firstOfList n copied ≡ points v = first-copied n v empty copied (omega arith) copy ∙ first-whole n v whole in
-      by-answer (andThen (heldPoints left work) (intoRoom (length old))) r out
-      (ap (λ (a : Answer (List SphericalPoint)). andThen a (intoRoom (length old))) (rounds ∙ ap (simplified closed) same)
-      ∙ answer-accepted k (storedCheck v) (andThen (simplified closed (points v)) (intoRoom (length old))) told check)
-      p q
+  module _ (told : k ≡ Accepted) where
+    pub points-accepted : storedCheck v ≡ 0
+    points-accepted = sym number ∙ ap checkNumber told
+
+    module _ (at : List ℕ) (left : Written) (rounds : held left at ≡ simplified (pointAt v) closed (positionsFrom 0 (length v / 3))) where
+      done-points : (a : Answer (List ℕ)) → held left at ≡ a → andThen (mapAnswer (map (pointAt v)) a) (intoRoom (length old)) ≡ DonePoints
+      unfolding simplifyPoints
+      done-points a h =
+          ap (λ (x : Answer (List SphericalPoint)). andThen x (intoRoom (length old)))
+          (ap (mapAnswer (map (pointAt v))) (sym h) ∙ left-points v closed at left rounds (stored-whole v points-accepted .triples))
+          ∙ answer-accepted k (storedCheck v) _ told number
+
+      pub points-past-end : (e : Refusal) → left ≡ W.Refused e → Answers (writtenAnswer left) old
+      points-past-end e h =
+          let a = by-answer (refused (refusalNumber e)) (done-points (refused (refusalNumber e)) (ap (λ (w : Written). held w at) h)) in
+          (ap writtenAnswer h ∙ a .0, a .1)
+
+      module _ (n : ℕ) (h : left ≡ W.Vertices n) (room : n ≤ length at) where
+        abbrev ps : List SphericalPoint
+        ps = map (pointAt v) (take n at)
+
+        count : length ps ≡ n
+        count = length-map (take n at) (pointAt v) ∙ length-take-le n at room
+
+        into-points : intoRoom (length old) ps ≡ DonePoints
+        into-points = done-points (answered (take n at)) (ap (λ (w : Written). held w at) h)
+
+        pub points-no-room : length old < 3 * n → Answers (refused 7) old
+        points-no-room t = by-answer (refused 7) (sym (no-room-into (length old) ps (omega (arith, count))) ∙ into-points)
+
+        pub points-done : (out : List Float) → 3 * n ≤ length old → out ≡ flat ps ++ drop (3 * length (take n at)) old → Answers (answered n) out
+        points-done out t w =
+            let done = by-answer (answered ps) (sym (room-into (length old) ps (omega (arith, count))) ∙ into-points) in
+            let l : 3 * length (take n at) ≡ length (flat ps) = omega (arith, length-flat ps, count, length-take-le n at room) in
+            (ap answered (sym count) ∙ done .0, w ∙ ap (λ (m : ℕ). flat ps ++ drop m old) l ∙ done .1)

@@ -6,14 +6,15 @@ use lib.Dec.{ltb}
 use lib.Ieee.{Float}
 use Rattle.sphericalpoint.specs.declared.SphericalPoint.{SphericalPoint}
 use Rattle.arcstring.specs.Answer.{Answer, refused, answered, mapAnswer, andThen, pick}
-use Rattle.arcstring.specs.Points.{ArcString, copied}
+use Rattle.arcstring.specs.Points.{itself, ArcString, copied}
 use Rattle.arcstring_relation.specs.OnString.{alongString, stored}
 use Rattle.arcstring_relation.specs.Relation.{equalStrings, withinString, twoStrings}
 use Rattle.arcstring_simplify.specs.Simplify.{simplified}
 
 -- simplified, with near list and flag carried over
 unfoldable pub simplifiedString : ArcString → Answer ArcString
-simplifiedString s = mapAnswer (λ (ps : List SphericalPoint). record { vertices = ps; near = s .near; closed = s .closed }) (simplified (s .closed) (s .vertices))
+simplifiedString s =
+    mapAnswer (λ (ps : List SphericalPoint). record { vertices = ps; near = s .near; closed = s .closed }) (simplified itself (s .closed) (s .vertices))
 
 -- yes, or what the rest answers
 abbrev pub orElse : Bool → Answer Bool → Answer Bool

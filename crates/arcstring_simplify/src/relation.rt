@@ -40,7 +40,7 @@ fn equals_longer(
         return Decided::Verdict(true);
     }
     let mut long = [0.0; 3072];
-    let second = simplify::simplify(longer, longer_closed, &mut long);
+    let second = simplify::simplify_points(longer, longer_closed, &mut long);
     match second {
         Written::Refused(e) => Decided::Refused(e),
         Written::Vertices(n) => {
@@ -69,7 +69,7 @@ fn equals_simplified(
     ensures { λ r. ⌜ decidedAnswer r ≡ equalsSimplified (stored (now (shorter .entry)) (now (shorter .entry)) «shorter_closed») (stored (now (longer .entry)) (now («longer_near» .entry)) «longer_closed») ⌝ }
 {
     let mut short = [0.0; 3072];
-    let first = simplify::simplify(shorter, shorter_closed, &mut short);
+    let first = simplify::simplify_points(shorter, shorter_closed, &mut short);
     match first {
         Written::Refused(e) => Decided::Refused(e),
         Written::Vertices(n) => {
@@ -176,12 +176,12 @@ fn same_simplified(a: &[f64], a_closed: bool, b: &[f64], b_closed: bool) -> Deci
     ensures { λ r. ⌜ decidedAnswer r ≡ sameSimplified (stored (now (a .entry)) (now (a .entry)) «a_closed») (stored (now (b .entry)) (now (b .entry)) «b_closed») ⌝ }
 {
     let mut simple_a = [0.0; 3072];
-    let first = simplify::simplify(a, a_closed, &mut simple_a);
+    let first = simplify::simplify_points(a, a_closed, &mut simple_a);
     match first {
         Written::Refused(e) => Decided::Refused(e),
         Written::Vertices(n) => {
             let mut simple_b = [0.0; 3072];
-            let second = simplify::simplify(b, b_closed, &mut simple_b);
+            let second = simplify::simplify_points(b, b_closed, &mut simple_b);
             match second {
                 Written::Refused(e) => Decided::Refused(e),
                 Written::Vertices(m) => {

@@ -1,12 +1,16 @@
-// Vertices that lie along the string removed, round by round, as the source's `simplify` removes them.
+// Vertices that lie along the string removed, round by round, as the source's `simplify` removes them. The rounds move
+// positions of the lent vertices; what stands at those that are left, vertices and numbers, is gathered at the end.
 ghost use mathlib.Core.Path.{_≡_};
-ghost use Prim.Native.Nat.{_*_, _≤_, _<_};
-ghost use lib.ListN.{length};
+ghost use mathlib.Core.List.{map};
+ghost use Prim.Native.Nat.{_/_, _≤_, _<_};
+ghost use lib.ListN.{length, take};
 ghost use Rattle.arcstring.specs.Answer.{leaves};
-ghost use Rattle.arcstring.specs.Points.{points};
-ghost use Rattle.arcstring.specs.Walk.{writtenAnswer, writtenResult, writtenFloats};
-ghost use Rattle.arcstring.specs.Work.{firstOfList, heldPoints, heldCount};
-ghost use Rattle.arcstring_simplify.specs.Simplify.{thirdPosition, unnecessaryPositions, removeAll, simplified};
+ghost use Rattle.arcstring.specs.Points.{pointAt};
+ghost use Rattle.arcstring.specs.Positions.{Within, positionsFrom};
+ghost use Rattle.arcstring.specs.Check.{storedCheck};
+ghost use Rattle.arcstring.specs.Walk.{writtenAnswer, writtenResult, writtenFloats, withoutBuoys, writtenBuoys};
+ghost use Rattle.arcstring.specs.Work.{held, heldCount};
+ghost use Rattle.arcstring_simplify.specs.Simplify.{thirdPosition, unnecessaryPositions, removeAll, simplified, simplifyPoints};
 ghost use Rattle.arcstring_simplify.specs.Simplify as Simplify;
 ghost use Rattle.arcstring_simplify.specs.Kept.{keptVertices};
 use arcstring::check;
@@ -14,7 +18,6 @@ use arcstring::check::Checked;
 use arcstring::check::Refusal;
 use arcstring::vertex;
 use arcstring::walk::Written;
-use arcstring::work;
 
 // The position of the third point that vertex k of n is judged by: the next vertex, and vertex 2 for the last.
 fn third_position(k: usize, n: usize) -> usize
@@ -24,29 +27,34 @@ fn third_position(k: usize, n: usize) -> usize
     if k + 1 < n { k + 1 } else { n - k + 1 }
 }
 
-// Whether vertex k is judged unnecessary.
-fn unnecessary(v: &[f64], n: usize, k: usize) -> bool
-    requires { ⌜ (length (now v) ≡ 3 * n) × (3 ≤ n) × (1 ≤ k) × (k < n) ⌝ }
-    ensures { λ r. ⌜ r ≡ Simplify.unnecessary (points (now (v .entry))) k ⌝ }
+// Whether vertex k of those at the positions `at` is judged unnecessary.
+fn unnecessary(v: &[f64], at: &[usize], k: usize) -> bool
+    requires { ⌜ Within (length (now v) / 3) (now at) × (3 ≤ length (now at)) × (1 ≤ k) × (k < length (now at)) ⌝ }
+    ensures { λ r. ⌜ r ≡ Simplify.unnecessary (map (pointAt (now (v .entry))) (now (at .entry))) k ⌝ }
 {
+    let before = at[k - 1];
+    let this = at[k];
+    let t = third_position(k, at.len());
+    let third = at[t];
     sphericalpoint::xyzs_coplanar(
-        vertex::vertex_at(v, k - 1),
-        vertex::vertex_at(v, k),
-        vertex::vertex_at(v, third_position(k, n)),
+        vertex::vertex_at(v, before),
+        vertex::vertex_at(v, this),
+        vertex::vertex_at(v, third),
     )
 }
 
-// Vertex 0, and vertex k + skip for each k from 1 on that is not judged unnecessary.
-fn keep(v: &[f64], n: usize, skip: usize, out: &mut [f64]) -> usize
-    requires { ⌜ (length (now v) ≡ 3 * n) × (3 ≤ n) × (skip ≤ 1) × (3 * n ≤ length (now out)) ⌝ }
-    ensures { λ r. ⌜ (r ≤ n) × (firstOfList r (now (out .exit)) ≡ keptVertices (points (now (v .entry))) skip) ⌝ }
+// Position 0, and position k + skip for each k from 1 on whose vertex is not judged unnecessary.
+fn keep(v: &[f64], at: &[usize], skip: usize, next: &mut [usize]) -> usize
+    requires { ⌜ Within (length (now v) / 3) (now at) × (3 ≤ length (now at)) × (skip ≤ 1) × (length (now at) ≤ length (now next)) ⌝ }
+    ensures { λ r. ⌜ (r ≤ length (now (at .entry))) × (take r (now (next .exit)) ≡ keptVertices (map (pointAt (now (v .entry))) (now (at .entry))) (now (at .entry)) skip) ⌝ }
 {
-    vertex::copy_run(v, 0, 1, out, 0);
+    let n = at.len();
+    next[0] = at[0];
     let mut kept = 1;
     let mut k = 1;
     while k + skip < n {
-        if !unnecessary(v, n, k) {
-            vertex::put_vertex(out, kept, vertex::vertex_at(v, k + skip));
+        if !unnecessary(v, at, k) {
+            next[kept] = at[k + skip];
             kept += 1;
         }
         k += 1;
@@ -54,59 +62,108 @@ fn keep(v: &[f64], n: usize, skip: usize, out: &mut [f64]) -> usize
     kept
 }
 
-// One round: what is left, at the start of `out`. A closed string judges vertex 1 twice: where it goes, it goes first, so
+// One round: what is left, at the start of `next`. A closed string judges vertex 1 twice: where it goes, it goes first, so
 // that the vertex after each one judged unnecessary is removed, and the last one's would lie past the end.
-fn round(v: &[f64], n: usize, closed: bool, out: &mut [f64]) -> Written
-    requires { ⌜ (length (now v) ≡ 3 * n) × (3 ≤ n) × (3 * n ≤ length (now out)) ⌝ }
-    ensures { λ r. ⌜ (heldPoints r (now (out .exit)) ≡ removeAll (unnecessaryPositions (points (now (v .entry))) closed) (points (now (v .entry)))) × (heldCount r ≤ n) ⌝ }
+fn round(v: &[f64], at: &[usize], closed: bool, next: &mut [usize]) -> Written
+    requires { ⌜ Within (length (now v) / 3) (now at) × (3 ≤ length (now at)) × (length (now at) ≤ length (now next)) ⌝ }
+    ensures { λ r. ⌜ (held r (now (next .exit)) ≡ removeAll (unnecessaryPositions (map (pointAt (now (v .entry))) (now (at .entry))) closed) (now (at .entry))) × (heldCount r ≤ length (now (at .entry))) ⌝ }
 {
     if !closed {
-        return Written::Vertices(keep(v, n, 0, out));
+        return Written::Vertices(keep(v, at, 0, next));
     }
-    if !unnecessary(v, n, 1) {
-        return Written::Vertices(keep(v, n, 0, out));
+    if !unnecessary(v, at, 1) {
+        return Written::Vertices(keep(v, at, 0, next));
     }
-    if unnecessary(v, n, n - 1) {
+    if unnecessary(v, at, at.len() - 1) {
         return Written::Refused(Refusal::RemovesPastEnd);
     }
-    Written::Vertices(keep(v, n, 1, out))
+    Written::Vertices(keep(v, at, 1, next))
 }
 
-// Rounds until nothing is judged unnecessary or two vertices are left, on the first n vertices of `work`.
-fn simplify_rounds(work: &mut [f64], n: usize, closed: bool, next: &mut [f64]) -> Written
-    requires { ⌜ (n ≤ 1024) × (length (now work) ≡ 3072) × (length (now next) ≡ 3072) ⌝ }
-    ensures { λ r. ⌜ (heldPoints r (now (work .exit)) ≡ simplified closed (firstOfList n (now (work .entry)))) × (heldCount r ≤ n) ⌝ }
+// Rounds until nothing is judged unnecessary or two vertices are left, on the first n positions of `at`.
+fn simplify_rounds(
+    v: &[f64],
+    at: &mut [usize],
+    n: usize,
+    closed: bool,
+    next: &mut [usize],
+) -> Written
+    requires { ⌜ Within (length (now v) / 3) (take n (now at)) × (n ≤ 1024) × (length (now at) ≡ 1024) × (length (now next) ≡ 1024) ⌝ }
+    ensures { λ r. ⌜ (held r (now (at .exit)) ≡ simplified (pointAt (now (v .entry))) closed (take n (now (at .entry)))) × (heldCount r ≤ n) ⌝ }
 {
     let mut m = n;
     while m > 2 {
-        let end = 3 * m;
-        let left = round(&work[..end], m, closed, next);
+        let left = round(v, &at[..m], closed, next);
         let Written::Vertices(kept) = left else {
             return left;
         };
         if kept == m {
             return Written::Vertices(m);
         }
-        vertex::copy_run(next, 0, kept, work, 0);
+        vertex::copy_numbers(next, kept, at);
         m = kept;
     }
     Written::Vertices(m)
 }
 
-// The string without the vertices that lie along it, as the source judges them. Flag and near list stay.
-// Refuses by 1, 3 and 4 of the vertices, by 5 where a removal lies past the end, and by 7.
-pub fn simplify(v: &[f64], closed: bool, out: &mut [f64]) -> Written
-    ensures { λ r. ⌜ writtenAnswer r ≡ writtenResult (Simplify.simplify (now (v .entry)) closed (length (now (out .entry)))) ⌝ }
-    ensures { λ _. ⌜ now (out .exit) ≡ leaves (writtenFloats (Simplify.simplify (now (v .entry)) closed (length (now (out .entry))))) (now (out .entry)) ⌝ }
+// The positions of the vertices of an accepted string that are left, at the start of `at`.
+fn simplify_positions(v: &[f64], closed: bool, at: &mut [usize]) -> Written
+    requires { ⌜ (storedCheck (now v) ≡ 0) × (length (now at) ≡ 1024) ⌝ }
+    ensures { λ r. ⌜ (held r (now (at .exit)) ≡ simplified (pointAt (now (v .entry))) closed (positionsFrom 0 (length (now (v .entry)) / 3))) × (heldCount r ≤ length (now (v .entry)) / 3) ⌝ }
+{
+    let n = v.len() / 3;
+    let mut next = [0; 1024];
+    vertex::positions(n, at);
+    simplify_rounds(v, at, n, closed, &mut next)
+}
+
+// The points alone, for calls that are lent no numbers. Refuses by 1, 3 and 4 of the vertices, by 5 and by 7.
+pub(crate) fn simplify_points(v: &[f64], closed: bool, out: &mut [f64]) -> Written
+    ensures { λ r. ⌜ writtenAnswer r ≡ writtenResult (simplifyPoints (now (v .entry)) closed (length (now (out .entry)))) ⌝ }
+    ensures { λ _. ⌜ now (out .exit) ≡ leaves (writtenFloats (simplifyPoints (now (v .entry)) closed (length (now (out .entry))))) (now (out .entry)) ⌝ }
 {
     let checked = check::check_stored(v);
     if let Checked::Refused(e) = checked {
         return Written::Refused(e);
     }
-    let n = v.len() / 3;
-    let mut work = [0.0; 3072];
-    let mut next = [0.0; 3072];
-    vertex::copy_run(v, 0, n, &mut work, 0);
-    let left = simplify_rounds(&mut work, n, closed, &mut next);
-    work::hand_over(&work, left, out)
+    let mut at = [0; 1024];
+    let left = simplify_positions(v, closed, &mut at);
+    let Written::Vertices(n) = left else {
+        return left;
+    };
+    if out.len() < 3 * n {
+        return Written::Refused(Refusal::NoRoom);
+    }
+    vertex::gather_vertices(v, &at[..n], out);
+    Written::Vertices(n)
+}
+
+// The string without the vertices that lie along it, as the source judges them; each number stays with its vertex. Flag and
+// near list stay. Refuses by 1, 10, 3 and 4 of the vertices, by 5 where a removal lies past the end, and by 7.
+pub fn simplify(
+    v: &[f64],
+    buoys: &[u32],
+    closed: bool,
+    out: &mut [f64],
+    out_buoys: &mut [u32],
+) -> Written
+    ensures { λ r. ⌜ writtenAnswer r ≡ writtenResult (Simplify.simplify (now (v .entry)) (now (buoys .entry)) closed (length (now (out .entry))) (length (now («out_buoys» .entry)))) ⌝ }
+    ensures { λ _. ⌜ now (out .exit) ≡ leaves (writtenFloats (withoutBuoys (Simplify.simplify (now (v .entry)) (now (buoys .entry)) closed (length (now (out .entry))) (length (now («out_buoys» .entry)))))) (now (out .entry)) ⌝ }
+    ensures { λ _. ⌜ now («out_buoys» .exit) ≡ leaves (writtenBuoys (Simplify.simplify (now (v .entry)) (now (buoys .entry)) closed (length (now (out .entry))) (length (now («out_buoys» .entry))))) (now («out_buoys» .entry)) ⌝ }
+{
+    let checked = check::check_string(v, buoys);
+    if let Checked::Refused(e) = checked {
+        return Written::Refused(e);
+    }
+    let mut at = [0; 1024];
+    let left = simplify_positions(v, closed, &mut at);
+    let Written::Vertices(n) = left else {
+        return left;
+    };
+    if (out.len() < 3 * n) | (out_buoys.len() < n) {
+        return Written::Refused(Refusal::NoRoom);
+    }
+    vertex::gather_vertices(v, &at[..n], out);
+    vertex::gather_buoys(buoys, &at[..n], out_buoys);
+    Written::Vertices(n)
 }

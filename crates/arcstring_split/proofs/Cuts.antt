@@ -7,17 +7,15 @@ use native.Mathlib.Omega.{arith}
 use lib.Dec.{eqb}
 use lib.ListN.{length, getD, take, drop, length-drop, length-append}
 use lib.Seq.{length-take-le, take-length, take-take, take-at, drop-at}
-use Rattle.sphericalpoint.specs.declared.SphericalPoint.{SphericalPoint}
-use Rattle.arcstring.specs.Points.{ArcString}
+use Rattle.arcstring.specs.declared.vertex.Vertex.{Vertex}
+use Rattle.arcstring.specs.Points.{StringOf}
 use Rattle.arcstring.specs.Splice.{splice}
-use Rattle.arcstring.proofs.Flat.{points-append}
 use Rattle.arcstring.proofs.Splices.{take-past-splice}
 use Rattle.arcstring_split.specs.Pieces.{piece, piecesOf, sum, allSome}
 use Rattle.arcstring_split.specs.Split.{pointsIn}
 use Rattle.arcstring_split.proofs.Sums.{sum-append, sum-split, some-append, some-cons, some-take, some-drop}
 use Rattle.arcstring_split.proofs.Shifts.{drop-take}
-use Rattle.arcstring_split.proofs.Pieces.{pieces-append, pieces-same, pieces-before, pieces-after, pieces-points}
-use Rattle.arcstring_split.proofs.Pieces as pieces
+use Rattle.arcstring_split.proofs.Pieces.{points-append, pieces-append, pieces-same, pieces-before, pieces-after, pieces-points}
 
 -- ---- two numbers in the place of number k
 
@@ -44,11 +42,12 @@ replaced-sum l k x y = sum-append (take k l) (x ∷ y ∷ drop (k + 1) l) ∙ om
 
 pub replaced-some : (l : List ℕ) (k x y : ℕ) → 1 ≤ x → 1 ≤ y → allSome l ≡ true → allSome (replaced l k x y) ≡ true
 replaced-some l k x y a b s =
-    some-append (take k l) (x ∷ y ∷ drop (k + 1) l) (some-take k l s) (some-cons x (y ∷ drop (k + 1) l) a (some-cons y (drop (k + 1) l) b (some-drop (k + 1) l s)))
+    some-append (take k l) (x ∷ y ∷ drop (k + 1) l) (some-take k l s)
+    (some-cons x (y ∷ drop (k + 1) l) a (some-cons y (drop (k + 1) l) b (some-drop (k + 1) l s)))
 
 -- ---- two pieces in the place of piece k
 
-module _ (cs fs : List ℕ) (ps : List SphericalPoint) (k : ℕ) (same : length cs ≡ length fs) (h : k < length cs) (enough : sum cs ≤ length ps) where
+module _ (cs fs : List ℕ) (ws : List Vertex) (k : ℕ) (same : length cs ≡ length fs) (h : k < length cs) (enough : sum cs ≤ length ws) where
   abbrev at : ℕ
   at = sum (take k cs)
 
@@ -58,33 +57,41 @@ module _ (cs fs : List ℕ) (ps : List SphericalPoint) (k : ℕ) (same : length 
   abbrev rest : ℕ
   rest = sum (drop (k + 1) cs)
 
-  in-all : past + rest ≤ length ps
+  in-all : past + rest ≤ length ws
   in-all = let e : sum (take (length cs) cs) ≡ at + getD cs k 0 + sum (drop (k + 1) (take (length cs) cs)) = sum-split cs (length cs) k h (omega arith) in
       omega (arith, rw take-length at e)
 
-  pub cut-points : (s t : ArcString) → pointsIn (take k (piecesOf cs fs ps) ++ (s ∷ t ∷ drop (k + 1) (piecesOf cs fs ps))) ≡ at + (length (s .vertices) + length (t .vertices)) + rest
+  pub cut-points : (s t : StringOf Vertex) →
+      pointsIn (take k (piecesOf cs fs ws) ++ (s ∷ t ∷ drop (k + 1) (piecesOf cs fs ws))) ≡ at + (length (s .vertices) + length (t .vertices)) + rest
   cut-points s t =
-      let before : pointsIn (take k (piecesOf cs fs ps)) ≡ at =
-      ap pointsIn (pieces-before cs fs ps k same h) ∙ pieces-points (take k cs) (take k fs) ps (length-take-le k cs (omega arith) ∙ sym (length-take-le k fs (omega arith))) (omega (arith, in-all)) in
-      let after : pointsIn (drop (k + 1) (piecesOf cs fs ps)) ≡ rest =
-      ap pointsIn (pieces-after cs fs ps k same h) ∙ pieces-points (drop (k + 1) cs) (drop (k + 1) fs) (drop past ps) (length-drop (k + 1) cs ∙ ap (λ (n : ℕ). n - (k + 1)) same ∙ sym (length-drop (k + 1) fs)) (rw length-drop (omega (arith, in-all))) in
-      pieces.points-append (take k (piecesOf cs fs ps)) (s ∷ t ∷ drop (k + 1) (piecesOf cs fs ps)) ∙ omega arith
+      let before : pointsIn (take k (piecesOf cs fs ws)) ≡ at =
+      ap pointsIn (pieces-before cs fs ws k same h)
+      ∙ pieces-points (take k cs) (take k fs) ws (length-take-le k cs (omega arith) ∙ sym (length-take-le k fs (omega arith))) (omega (arith, in-all)) in
+      let after : pointsIn (drop (k + 1) (piecesOf cs fs ws)) ≡ rest =
+      ap pointsIn (pieces-after cs fs ws k same h)
+      ∙ pieces-points (drop (k + 1) cs) (drop (k + 1) fs) (drop past ws)
+      (length-drop (k + 1) cs ∙ ap (λ (n : ℕ). n - (k + 1)) same ∙ sym (length-drop (k + 1) fs)) (rw length-drop (omega (arith, in-all))) in
+      points-append (take k (piecesOf cs fs ws)) (s ∷ t ∷ drop (k + 1) (piecesOf cs fs ws)) ∙ omega arith
 
-  pub cut-pieces : (x y f g : ℕ) (us vs tail qs : List SphericalPoint) → length us ≡ x → length vs ≡ y → qs ≡ take at ps ++ ((us ++ vs) ++ (take rest (drop past ps) ++ tail)) →
-      piecesOf (replaced cs k x y) (replaced fs k f g) qs ≡ take k (piecesOf cs fs ps) ++ (piece us (not (eqb f 0)) ∷ piece vs (not (eqb g 0)) ∷ drop (k + 1) (piecesOf cs fs ps))
+  pub cut-pieces : (x y f g : ℕ) (us vs tail xs : List Vertex) → length us ≡ x → length vs ≡ y →
+      xs ≡ take at ws ++ ((us ++ vs) ++ (take rest (drop past ws) ++ tail)) →
+      piecesOf (replaced cs k x y) (replaced fs k f g) xs
+      ≡ take k (piecesOf cs fs ws) ++ (piece us (not (eqb f 0)) ∷ piece vs (not (eqb g 0)) ∷ drop (k + 1) (piecesOf cs fs ws))
   unfolding piecesOf
-  cut-pieces x y f g us vs tail qs la lb e =
-      let run = take rest (drop past ps) in
-      let front : length (take at ps) ≡ at = length-take-le at ps (omega (arith, in-all)) in
-      let room : length run ≡ rest = length-take-le rest (drop past ps) (rw length-drop (omega (arith, in-all))) in
-      let d : drop at qs ≡ us ++ (vs ++ (run ++ tail)) = ap (drop at) e ∙ drop-at (take at ps) _ at front ∙ append-assoc us vs (run ++ tail) in
-      let d1 : drop x (drop at qs) ≡ vs ++ (run ++ tail) = ap (drop x) d ∙ drop-at us _ x la in
-      let d2 : drop y (drop x (drop at qs)) ≡ run ++ tail = ap (drop y) d1 ∙ drop-at vs _ y lb in
-      let t1 : take x (drop at qs) ≡ us = ap (take x) d ∙ take-at us _ x la in
-      let t2 : take y (drop x (drop at qs)) ≡ vs = ap (take y) d1 ∙ take-at vs _ y lb in
-      let before : piecesOf (take k cs) (take k fs) qs ≡ take k (piecesOf cs fs ps) =
-      pieces-same (take k cs) (take k fs) qs ps (ap (take at) e ∙ take-at (take at ps) _ at front) ∙ sym (pieces-before cs fs ps k same h) in
-      let after : piecesOf (drop (k + 1) cs) (drop (k + 1) fs) (drop y (drop x (drop at qs))) ≡ drop (k + 1) (piecesOf cs fs ps) =
-      pieces-same (drop (k + 1) cs) (drop (k + 1) fs) _ (drop past ps) (ap (take rest) d2 ∙ take-at run tail rest room) ∙ sym (pieces-after cs fs ps k same h) in
-      pieces-append (take k cs) (take k fs) (x ∷ y ∷ drop (k + 1) cs) (f ∷ g ∷ drop (k + 1) fs) qs (length-take-le k cs (omega arith) ∙ sym (length-take-le k fs (omega arith)))
+  cut-pieces x y f g us vs tail xs la lb e =
+      let run = take rest (drop past ws) in
+      let front : length (take at ws) ≡ at = length-take-le at ws (omega (arith, in-all)) in
+      let room : length run ≡ rest = length-take-le rest (drop past ws) (rw length-drop (omega (arith, in-all))) in
+      let d : drop at xs ≡ us ++ (vs ++ (run ++ tail)) = ap (drop at) e ∙ drop-at (take at ws) _ at front ∙ append-assoc us vs (run ++ tail) in
+      let d1 : drop x (drop at xs) ≡ vs ++ (run ++ tail) = ap (drop x) d ∙ drop-at us _ x la in
+      let d2 : drop y (drop x (drop at xs)) ≡ run ++ tail = ap (drop y) d1 ∙ drop-at vs _ y lb in
+      let t1 : take x (drop at xs) ≡ us = ap (take x) d ∙ take-at us _ x la in
+      let t2 : take y (drop x (drop at xs)) ≡ vs = ap (take y) d1 ∙ take-at vs _ y lb in
+      let before : piecesOf (take k cs) (take k fs) xs ≡ take k (piecesOf cs fs ws) =
+      pieces-same (take k cs) (take k fs) xs ws (ap (take at) e ∙ take-at (take at ws) _ at front) ∙ sym (pieces-before cs fs ws k same h) in
+      let after : piecesOf (drop (k + 1) cs) (drop (k + 1) fs) (drop y (drop x (drop at xs))) ≡ drop (k + 1) (piecesOf cs fs ws) =
+      pieces-same (drop (k + 1) cs) (drop (k + 1) fs) _ (drop past ws) (ap (take rest) d2 ∙ take-at run tail rest room)
+      ∙ sym (pieces-after cs fs ws k same h) in
+      pieces-append (take k cs) (take k fs) (x ∷ y ∷ drop (k + 1) cs) (f ∷ g ∷ drop (k + 1) fs) xs
+      (length-take-le k cs (omega arith) ∙ sym (length-take-le k fs (omega arith)))
       ∙ (λ i. before i ++ (piece (t1 i) (not (eqb f 0)) ∷ piece (t2 i) (not (eqb g 0)) ∷ after i))

@@ -11,6 +11,7 @@ use Rattle.arcstring.specs.declared.check.Refusal.{Refusal}
 use Rattle.arcstring.specs.Answer.{Answer, answered, pick, refusalNumber}
 use Rattle.arcstring.specs.Points.{points, pointAt}
 use Rattle.arcstring.specs.Work.{firstOfList}
+use Rattle.arcstring.proofs.Flat.{points-next, length-points}
 use Rattle.arcstring.proofs.Firsts.{length-first-of-list}
 use Rattle.arcstring_crossing.specs.Crossing.{Leg}
 use Rattle.arcstring_split.specs.declared.split.Cut.{Cut}
@@ -76,7 +77,7 @@ module _ (p : SphericalPoint) (w : List Float) (n m k : ℕ) (whole : Answer (Li
 
 module _ (extra : List Float) (count : ℕ) (triples : length extra ≡ 3 * count) (w : List Float) (n i : ℕ) (whole : Answer (List Leg)) (rest : forEach cutLegs (drop i (points extra)) (legsOf (firstOfList (2 * n) w)) ≡ whole) where
   pub cuts-end : count ≤ i → answered (legsOf (firstOfList (2 * n) w)) ≡ whole
-  cuts-end h = sym (each-end cutLegs extra count triples i (legsOf (firstOfList (2 * n) w)) h) ∙ rest
+  cuts-end h = sym (each-end cutLegs (points extra) i (legsOf (firstOfList (2 * n) w)) (omega (arith, length-points count extra triples))) ∙ rest
 
   -- q is point i, `held` is what cutting at it answers, w' the list after it
   module _ (q : SphericalPoint) (held : Cut) (w' : List Float) (more : i < count) (read : q ≡ pointAt extra i) (cut : heldLegs held w' ≡ cutLegs q (legsOf (firstOfList (2 * n) w))) where
@@ -86,9 +87,13 @@ module _ (extra : List Float) (count : ℕ) (triples : length extra ≡ 3 * coun
     pub cuts-stop : (e : Refusal) → held ≡ C.Refused e → heldLegs held w' ≡ whole
     cuts-stop e told =
         ap (λ (a : Cut). heldLegs a w') told
-        ∙ sym (each-stops cutLegs extra count triples i (legsOf (firstOfList (2 * n) w)) (refusalNumber e) more (answer-at (C.Refused e) told))
+        ∙ sym
+        (each-stops cutLegs (points extra) i (legsOf (firstOfList (2 * n) w)) (pointAt extra i) (points-next count extra i triples more) (refusalNumber e)
+        (answer-at (C.Refused e) told))
         ∙ rest
 
     pub cuts-on : (longer : ℕ) → held ≡ C.Pieces longer → forEach cutLegs (drop (i + 1) (points extra)) (legsOf (firstOfList (2 * longer) w')) ≡ whole
     cuts-on longer told =
-        sym (each-on cutLegs extra count triples i (legsOf (firstOfList (2 * n) w)) (legsOf (firstOfList (2 * longer) w')) more (answer-at (C.Pieces longer) told)) ∙ rest
+        sym
+        (each-on cutLegs (points extra) i (legsOf (firstOfList (2 * n) w)) (pointAt extra i) (points-next count extra i triples more)
+        (legsOf (firstOfList (2 * longer) w')) (answer-at (C.Pieces longer) told)) ∙ rest

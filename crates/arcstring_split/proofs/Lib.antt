@@ -1,6 +1,10 @@
--- The laws of strings with vertices inserted, and of split legs and strings. For others to cite: `Steps`, `LegFrom`. The rest serves the functions' proofs.
+-- The laws of strings with vertices inserted, and of split legs and strings. For others to cite: `InsertsWithout` and `SplitsWithout`, the theorems of
+-- `specs/BuoyLaws.antt`; `Steps`, `LegFrom`. The rest serves these and the functions' proofs.
 pub mod Steps
 pub mod LegFrom
+pub mod InsertsWithout
+pub mod SplitsWithout
+mod Natural
 mod Limits
 mod Shifts
 mod Inserted
@@ -14,6 +18,7 @@ mod SplitLegAnswers
 mod Uncut
 mod Sums
 mod Runs
+mod Replaced
 mod Halves
 mod Pieces
 mod Cuts

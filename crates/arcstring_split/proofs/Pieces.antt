@@ -1,20 +1,20 @@
 -- Laws of pieces that stand one after another: lists of them after one another, the piece at a place, how many, how many points, and what is written of them. Assumes nothing.
 use mathlib.Core.Path.{_≡_, refl, sym, ap, ap₂, _∙_}
 use mathlib.Core.Bool.{Bool, true, false, not}
-use mathlib.Core.List.{List, [], _∷_, _++_}
-use Prim.Native.Nat.{ℕ, zero, suc, _+_, _≤_, _<_}
+use mathlib.Core.List.{List, [], _∷_, _++_, map-append}
+use Prim.Native.Nat.{ℕ, suc, _+_, _≤_, _<_}
 use native.Mathlib.Numerals.{add-one}
 use native.Mathlib.Omega.{arith}
 use lib.Dec.{eqb}
 use lib.Ieee.{Float}
 use lib.ListN.{length, getD, take, drop, length-drop}
-use lib.Seq.{length-take-le, take-nil, take-take, take-add, drop-drop, take-at, drop-at, getD-at, split-at}
-use Rattle.sphericalpoint.specs.declared.SphericalPoint.{SphericalPoint}
+use lib.Seq.{length-take-le, take-take, take-add, drop-drop, take-at, drop-at, getD-at, split-at}
 use Rattle.arcstring.specs.Answer.{flagNumber}
-use Rattle.arcstring.specs.Points.{ArcString, flat}
+use Rattle.arcstring.specs.declared.vertex.Vertex.{Vertex}
+use Rattle.arcstring.specs.Points.{StringOf, flat, placeOf, placesOf, buoysOf}
 use Rattle.arcstring.proofs.Flat.{flat-append}
 use Rattle.arcstring_split.specs.Pieces.{piece, piecesOf, sum, flagsOf}
-use Rattle.arcstring_split.specs.Split.{pointsIn, noString, pieceFloats, pieceCounts, pieceFlags}
+use Rattle.arcstring_split.specs.Split.{pointsIn, noString, pieceFloats, pieceBuoys, pieceCounts, pieceFlags}
 use Rattle.arcstring_split.proofs.Shifts.{drop-take}
 
 -- a flag that was written for a Bool reads as that Bool
@@ -24,103 +24,117 @@ flag-read false = refl
 
 -- ---- pieces after one another
 
-pub pieces-append : (cs fs ds gs : List ℕ) (ps : List SphericalPoint) → length cs ≡ length fs →
-    piecesOf (cs ++ ds) (fs ++ gs) ps ≡ piecesOf cs fs ps ++ piecesOf ds gs (drop (sum cs) ps)
+pub pieces-append : (cs fs ds gs : List ℕ) (vs : List Vertex) → length cs ≡ length fs →
+    piecesOf (cs ++ ds) (fs ++ gs) vs ≡ piecesOf cs fs vs ++ piecesOf ds gs (drop (sum cs) vs)
 unfolding piecesOf
-pieces-append [] [] ds gs ps h = refl
-pieces-append [] (f ∷ fs) ds gs ps h = absurd (omega arith)
-pieces-append (c ∷ cs) [] ds gs ps h = absurd (omega arith)
-pieces-append (c ∷ cs) (f ∷ fs) ds gs ps h =
-    ap (λ (ss : List ArcString). piece (take c ps) (not (eqb f 0)) ∷ ss)
-    (pieces-append cs fs ds gs (drop c ps) (omega arith) ∙ ap (λ (qs : List SphericalPoint). piecesOf cs fs (drop c ps) ++ piecesOf ds gs qs) (drop-drop (sum cs) c ps))
+pieces-append [] [] ds gs vs h = refl
+pieces-append [] (f ∷ fs) ds gs vs h = absurd (omega arith)
+pieces-append (c ∷ cs) [] ds gs vs h = absurd (omega arith)
+pieces-append (c ∷ cs) (f ∷ fs) ds gs vs h =
+    ap (λ (ss : List (StringOf Vertex)). piece (take c vs) (not (eqb f 0)) ∷ ss)
+    (pieces-append cs fs ds gs (drop c vs) (omega arith) ∙ ap (λ (ws : List Vertex). piecesOf cs fs (drop c vs) ++ piecesOf ds gs ws) (drop-drop (sum cs) c vs))
 
 -- only as many points as the counts say are looked at
-pub pieces-first : (cs fs : List ℕ) (ps : List SphericalPoint) → piecesOf cs fs (take (sum cs) ps) ≡ piecesOf cs fs ps
+pub pieces-first : (cs fs : List ℕ) (vs : List Vertex) → piecesOf cs fs (take (sum cs) vs) ≡ piecesOf cs fs vs
 unfolding piecesOf
-pieces-first [] fs ps = refl
-pieces-first (c ∷ cs) [] ps = refl
-pieces-first (c ∷ cs) (f ∷ fs) ps =
-    ap₂ (λ (qs : List SphericalPoint) (ss : List ArcString). piece qs (not (eqb f 0)) ∷ ss)
-    (take-take c (c + sum cs) ps (omega arith))
-    (ap (piecesOf cs fs) (drop-take c (sum cs) ps) ∙ pieces-first cs fs (drop c ps))
+pieces-first [] fs vs = refl
+pieces-first (c ∷ cs) [] vs = refl
+pieces-first (c ∷ cs) (f ∷ fs) vs =
+    ap₂ (λ (ws : List Vertex) (ss : List (StringOf Vertex)). piece ws (not (eqb f 0)) ∷ ss)
+    (take-take c (c + sum cs) vs (omega arith))
+    (ap (piecesOf cs fs) (drop-take c (sum cs) vs) ∙ pieces-first cs fs (drop c vs))
 
-pub pieces-same : (cs fs : List ℕ) (ps qs : List SphericalPoint) → take (sum cs) ps ≡ take (sum cs) qs → piecesOf cs fs ps ≡ piecesOf cs fs qs
-pieces-same cs fs ps qs h = sym (pieces-first cs fs ps) ∙ ap (piecesOf cs fs) h ∙ pieces-first cs fs qs
+pub pieces-same : (cs fs : List ℕ) (vs ws : List Vertex) → take (sum cs) vs ≡ take (sum cs) ws → piecesOf cs fs vs ≡ piecesOf cs fs ws
+pieces-same cs fs vs ws h = sym (pieces-first cs fs vs) ∙ ap (piecesOf cs fs) h ∙ pieces-first cs fs ws
 
-pub pieces-length : (cs fs : List ℕ) (ps : List SphericalPoint) → length cs ≡ length fs → length (piecesOf cs fs ps) ≡ length cs
+pub pieces-length : (cs fs : List ℕ) (vs : List Vertex) → length cs ≡ length fs → length (piecesOf cs fs vs) ≡ length cs
 unfolding piecesOf
-pieces-length [] fs ps h = refl
-pieces-length (c ∷ cs) [] ps h = absurd (omega arith)
-pieces-length (c ∷ cs) (f ∷ fs) ps h = ap suc (pieces-length cs fs (drop c ps) (omega arith))
+pieces-length [] fs vs h = refl
+pieces-length (c ∷ cs) [] vs h = absurd (omega arith)
+pieces-length (c ∷ cs) (f ∷ fs) vs h = ap suc (pieces-length cs fs (drop c vs) (omega arith))
 
 -- ---- how many points, and what is written
 
-pub points-append : (ss ts : List ArcString) → pointsIn (ss ++ ts) ≡ pointsIn ss + pointsIn ts
+pub points-append : (ss ts : List (StringOf Vertex)) → pointsIn (ss ++ ts) ≡ pointsIn ss + pointsIn ts
 points-append [] ts = omega arith
 points-append (s ∷ ss) ts = omega (arith, points-append ss ts)
 
-pub pieces-points : (cs fs : List ℕ) (ps : List SphericalPoint) → length cs ≡ length fs → sum cs ≤ length ps → pointsIn (piecesOf cs fs ps) ≡ sum cs
+pub pieces-points : (cs fs : List ℕ) (vs : List Vertex) → length cs ≡ length fs → sum cs ≤ length vs → pointsIn (piecesOf cs fs vs) ≡ sum cs
 unfolding piecesOf
-pieces-points [] fs ps h enough = refl
-pieces-points (c ∷ cs) [] ps h enough = absurd (omega arith)
-pieces-points (c ∷ cs) (f ∷ fs) ps h enough =
-    omega (arith, length-take-le c ps (omega arith), pieces-points cs fs (drop c ps) (omega arith) (rw length-drop (omega arith)))
+pieces-points [] fs vs h enough = refl
+pieces-points (c ∷ cs) [] vs h enough = absurd (omega arith)
+pieces-points (c ∷ cs) (f ∷ fs) vs h enough =
+    omega (arith, length-take-le c vs (omega arith), pieces-points cs fs (drop c vs) (omega arith) (rw length-drop (omega arith)))
 
-pub pieces-counts : (cs fs : List ℕ) (ps : List SphericalPoint) → length cs ≡ length fs → sum cs ≤ length ps → pieceCounts (piecesOf cs fs ps) ≡ cs
+pub pieces-counts : (cs fs : List ℕ) (vs : List Vertex) → length cs ≡ length fs → sum cs ≤ length vs → pieceCounts (piecesOf cs fs vs) ≡ cs
 unfolding piecesOf
-pieces-counts [] fs ps h enough = refl
-pieces-counts (c ∷ cs) [] ps h enough = absurd (omega arith)
-pieces-counts (c ∷ cs) (f ∷ fs) ps h enough =
-    ap₂ _∷_ (length-take-le c ps (omega arith)) (pieces-counts cs fs (drop c ps) (omega arith) (rw length-drop (omega arith)))
+pieces-counts [] fs vs h enough = refl
+pieces-counts (c ∷ cs) [] vs h enough = absurd (omega arith)
+pieces-counts (c ∷ cs) (f ∷ fs) vs h enough =
+    ap₂ _∷_ (length-take-le c vs (omega arith)) (pieces-counts cs fs (drop c vs) (omega arith) (rw length-drop (omega arith)))
 
-pub pieces-flags : (cs fs : List ℕ) (ps : List SphericalPoint) → length cs ≡ length fs → pieceFlags (piecesOf cs fs ps) ≡ flagsOf fs
+pub pieces-flags : (cs fs : List ℕ) (vs : List Vertex) → length cs ≡ length fs → pieceFlags (piecesOf cs fs vs) ≡ flagsOf fs
 unfolding piecesOf
-pieces-flags [] [] ps h = refl
-pieces-flags [] (f ∷ fs) ps h = absurd (omega arith)
-pieces-flags (c ∷ cs) [] ps h = absurd (omega arith)
-pieces-flags (c ∷ cs) (f ∷ fs) ps h = ap (λ (l : List ℕ). flagNumber (not (eqb f 0)) ∷ l) (pieces-flags cs fs (drop c ps) (omega arith))
+pieces-flags [] [] vs h = refl
+pieces-flags [] (f ∷ fs) vs h = absurd (omega arith)
+pieces-flags (c ∷ cs) [] vs h = absurd (omega arith)
+pieces-flags (c ∷ cs) (f ∷ fs) vs h = ap (λ (l : List ℕ). flagNumber (not (eqb f 0)) ∷ l) (pieces-flags cs fs (drop c vs) (omega arith))
 
-pub pieces-floats : (cs fs : List ℕ) (ps : List SphericalPoint) → length cs ≡ length fs → pieceFloats (piecesOf cs fs ps) ≡ flat (take (sum cs) ps)
+pub pieces-floats : (cs fs : List ℕ) (vs : List Vertex) → length cs ≡ length fs → pieceFloats (piecesOf cs fs vs) ≡ flat (placesOf (take (sum cs) vs))
 unfolding piecesOf
-pieces-floats [] fs ps h = refl
-pieces-floats (c ∷ cs) [] ps h = absurd (omega arith)
-pieces-floats (c ∷ cs) (f ∷ fs) ps h =
-    ap (λ (v : List Float). flat (take c ps) ++ v) (pieces-floats cs fs (drop c ps) (omega arith))
-    ∙ sym (flat-append (take c ps) (take (sum cs) (drop c ps)))
-    ∙ ap flat (sym (take-add c (sum cs) ps))
+pieces-floats [] fs vs h = refl
+pieces-floats (c ∷ cs) [] vs h = absurd (omega arith)
+pieces-floats (c ∷ cs) (f ∷ fs) vs h =
+    ap (λ (v : List Float). flat (placesOf (take c vs)) ++ v) (pieces-floats cs fs (drop c vs) (omega arith))
+    ∙ sym (flat-append (placesOf (take c vs)) (placesOf (take (sum cs) (drop c vs))))
+    ∙ ap flat (sym (map-append placeOf (take c vs) (take (sum cs) (drop c vs))))
+    ∙ ap (λ (ws : List Vertex). flat (placesOf ws)) (sym (take-add c (sum cs) vs))
+
+pub pieces-buoys : (cs fs : List ℕ) (vs : List Vertex) → length cs ≡ length fs → pieceBuoys (piecesOf cs fs vs) ≡ buoysOf (take (sum cs) vs)
+unfolding piecesOf
+pieces-buoys [] fs vs h = refl
+pieces-buoys (c ∷ cs) [] vs h = absurd (omega arith)
+pieces-buoys (c ∷ cs) (f ∷ fs) vs h =
+    ap (λ (bs : List ℕ). buoysOf (take c vs) ++ bs) (pieces-buoys cs fs (drop c vs) (omega arith))
+    ∙ sym (map-append (λ (x : Vertex). x .buoy) (take c vs) (take (sum cs) (drop c vs)))
+    ∙ ap buoysOf (sym (take-add c (sum cs) vs))
 
 -- ---- the piece at place k of those that the counts cs and the flags fs say
 
-module _ (cs fs : List ℕ) (ps : List SphericalPoint) (k : ℕ) (same : length cs ≡ length fs) (h : k < length cs) where
+module _ (cs fs : List ℕ) (vs : List Vertex) (k : ℕ) (same : length cs ≡ length fs) (h : k < length cs) where
   abbrev at : ℕ
   at = sum (take k cs)
 
   abbrev old : ℕ
   old = getD cs k 0
 
-  pub pieces-at : piecesOf cs fs ps ≡
-      piecesOf (take k cs) (take k fs) ps ++ (piece (take old (drop at ps)) (not (eqb (getD fs k 0) 0)) ∷ piecesOf (drop (k + 1) cs) (drop (k + 1) fs) (drop (at + old) ps))
+  pub pieces-at : piecesOf cs fs vs ≡
+      piecesOf (take k cs) (take k fs) vs
+      ++ (piece (take old (drop at vs)) (not (eqb (getD fs k 0) 0)) ∷ piecesOf (drop (k + 1) cs) (drop (k + 1) fs) (drop (at + old) vs))
   unfolding piecesOf
   pieces-at =
       let c : cs ≡ take k cs ++ (old ∷ drop (k + 1) cs) = rw add-one (split-at cs k 0 h) in
       let f : fs ≡ take k fs ++ (getD fs k 0 ∷ drop (k + 1) fs) = rw add-one (split-at fs k 0 (omega arith)) in
-      ap₂ (λ (a b : List ℕ). piecesOf a b ps) c f
-      ∙ pieces-append (take k cs) (take k fs) (old ∷ drop (k + 1) cs) (getD fs k 0 ∷ drop (k + 1) fs) ps (length-take-le k cs (omega arith) ∙ sym (length-take-le k fs (omega arith)))
-      ∙ ap (λ (qs : List SphericalPoint). piecesOf (take k cs) (take k fs) ps ++ (piece (take old (drop at ps)) (not (eqb (getD fs k 0) 0)) ∷ piecesOf (drop (k + 1) cs) (drop (k + 1) fs) qs)) (drop-drop old at ps)
+      ap₂ (λ (a b : List ℕ). piecesOf a b vs) c f
+      ∙ pieces-append (take k cs) (take k fs) (old ∷ drop (k + 1) cs) (getD fs k 0 ∷ drop (k + 1) fs) vs
+      (length-take-le k cs (omega arith) ∙ sym (length-take-le k fs (omega arith)))
+      ∙ ap (λ (ws : List Vertex). piecesOf (take k cs) (take k fs) vs
+      ++ (piece (take old (drop at vs)) (not (eqb (getD fs k 0) 0)) ∷ piecesOf (drop (k + 1) cs) (drop (k + 1) fs) ws)) (drop-drop old at vs)
 
-  front-length : length (piecesOf (take k cs) (take k fs) ps) ≡ k
-  front-length = pieces-length (take k cs) (take k fs) ps (length-take-le k cs (omega arith) ∙ sym (length-take-le k fs (omega arith))) ∙ length-take-le k cs (omega arith)
+  front-length : length (piecesOf (take k cs) (take k fs) vs) ≡ k
+  front-length =
+      pieces-length (take k cs) (take k fs) vs (length-take-le k cs (omega arith) ∙ sym (length-take-le k fs (omega arith))) ∙ length-take-le k cs (omega arith)
 
-  pub pieces-before : take k (piecesOf cs fs ps) ≡ piecesOf (take k cs) (take k fs) ps
-  pieces-before = ap (take k) pieces-at ∙ take-at (piecesOf (take k cs) (take k fs) ps) _ k front-length
+  pub pieces-before : take k (piecesOf cs fs vs) ≡ piecesOf (take k cs) (take k fs) vs
+  pieces-before = ap (take k) pieces-at ∙ take-at (piecesOf (take k cs) (take k fs) vs) _ k front-length
 
-  pub pieces-there : getD (piecesOf cs fs ps) k noString ≡ piece (take old (drop at ps)) (not (eqb (getD fs k 0) 0))
-  pieces-there = ap (λ (ss : List ArcString). getD ss k noString) pieces-at ∙ getD-at (piecesOf (take k cs) (take k fs) ps) _ _ noString k front-length
+  pub pieces-there : getD (piecesOf cs fs vs) k noString ≡ piece (take old (drop at vs)) (not (eqb (getD fs k 0) 0))
+  pieces-there = ap (λ (ss : List (StringOf Vertex)). getD ss k noString) pieces-at ∙ getD-at (piecesOf (take k cs) (take k fs) vs) _ _ noString k front-length
 
-  pub pieces-after : drop (k + 1) (piecesOf cs fs ps) ≡ piecesOf (drop (k + 1) cs) (drop (k + 1) fs) (drop (at + old) ps)
+  pub pieces-after : drop (k + 1) (piecesOf cs fs vs) ≡ piecesOf (drop (k + 1) cs) (drop (k + 1) fs) (drop (at + old) vs)
   pieces-after =
-      let there = piece (take old (drop at ps)) (not (eqb (getD fs k 0) 0)) in
-      let rest = piecesOf (drop (k + 1) cs) (drop (k + 1) fs) (drop (at + old) ps) in
+      let there = piece (take old (drop at vs)) (not (eqb (getD fs k 0) 0)) in
+      let rest = piecesOf (drop (k + 1) cs) (drop (k + 1) fs) (drop (at + old) vs) in
       ap (drop (k + 1)) pieces-at
-      ∙ sym (drop-drop 1 k (piecesOf (take k cs) (take k fs) ps ++ (there ∷ rest)))
-      ∙ ap (drop 1) (drop-at (piecesOf (take k cs) (take k fs) ps) (there ∷ rest) k front-length)
+      ∙ sym (drop-drop 1 k (piecesOf (take k cs) (take k fs) vs ++ (there ∷ rest)))
+      ∙ ap (drop 1) (drop-at (piecesOf (take k cs) (take k fs) vs) (there ∷ rest) k front-length)

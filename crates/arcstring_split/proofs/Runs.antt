@@ -1,41 +1,30 @@
--- Laws of numbers and vertices that are moved: a number put after those written, numbers that go one place further, and a run of vertices made another. Assumes nothing.
+-- Laws of numbers that are moved: flags copied out, and numbers that go one place further. Assumes nothing.
 use mathlib.Core.Logic.{_≢_}
 use mathlib.Core.Path.{_≡_, sym, ap, ap₂, _∙_}
 use mathlib.Core.Bool.{not}
 use mathlib.Core.List.{List, [], _∷_, _++_, append-assoc, map-append}
-use Prim.Native.Nat.{ℕ, suc, _+_, _-_, _*_, _≤_, _<_}
+use Prim.Native.Nat.{ℕ, suc, _+_, _-_, _≤_, _<_}
 use native.Mathlib.Numerals.{add-one}
 use native.Mathlib.Omega.{arith}
 use lib.Dec.{eqb}
-use lib.Ieee.{Float}
-use lib.ListN.{length, getD, take, drop, set, length-drop, length-map}
+use lib.ListN.{length, getD, take, drop, set, length-map}
 use lib.Seq.{length-take-le, take-suc, drop-cons, set-at, set-comm}
 use Rattle.arcstring.specs.Answer.{flagNumber}
 use Rattle.arcstring.specs.Splice.{splice}
-use Rattle.arcstring.proofs.Splices.{length-splice, splice-next, splice-nothing, set-splice, take-past-splice}
+use Rattle.arcstring.proofs.Splices.{push-next, splice-nothing}
 use Rattle.arcstring_split.specs.Pieces.{flagsOf}
 use Rattle.arcstring_split.proofs.Shifts.{getD-before-splice}
 
--- ---- numbers copied
-
--- a number put after those that are written
-put-next : (old out xs : List ℕ) (i x : ℕ) → length xs ≡ i → i < length old → out ≡ splice old 0 xs → set out i x ≡ splice old 0 (xs ++ (x ∷ []))
-put-next old out xs i x l h e =
-    let same : length (splice old 0 xs) ≡ length old = length-splice old 0 xs (omega arith) in
-    ap (λ (o : List ℕ). set o i x) e ∙ set-splice (splice old 0 xs) i x (omega arith) ∙ splice-next old 0 xs i (x ∷ []) (omega arith) (omega arith)
+-- ---- flags copied
 
 take-more : (list : List ℕ) (i : ℕ) → i < length list → take (i + 1) list ≡ take i list ++ (getD list i 0 ∷ [])
 take-more list i h = rw add-one (take-suc list i 0 h)
-
-pub numbers-step : (list old out : List ℕ) (i : ℕ) → i < length list → i < length old → out ≡ splice old 0 (take i list) → set out i (getD list i 0) ≡ splice old 0 (take (i + 1) list)
-numbers-step list old out i h room e =
-    put-next old out (take i list) i (getD list i 0) (length-take-le i list (omega arith)) room e ∙ ap (splice old 0) (sym (take-more list i h))
 
 pub flags-step : (list old out : List ℕ) (i x : ℕ) → i < length list → i < length old → out ≡ splice old 0 (flagsOf (take i list)) → x ≡ flagNumber (not (eqb (getD list i 0) 0)) →
     set out i x ≡ splice old 0 (flagsOf (take (i + 1) list))
 flags-step list old out i x h room e r =
     let f : ℕ → ℕ = λ (n : ℕ). flagNumber (not (eqb n 0)) in
-    put-next old out (flagsOf (take i list)) i x (length-map (take i list) f ∙ length-take-le i list (omega arith)) room e
+    push-next old out (flagsOf (take i list)) i x e (length-map (take i list) f ∙ length-take-le i list (omega arith)) room
     ∙ ap (λ (y : ℕ). splice old 0 (flagsOf (take i list) ++ (y ∷ []))) r
     ∙ ap (splice old 0) (sym (ap flagsOf (take-more list i h) ∙ map-append f (take i list) (getD list i 0 ∷ [])))
 
@@ -77,14 +66,3 @@ moved-all old list m k i x y end h room e =
     ∙ ap (λ (z : List ℕ). set (set z (k + 1) y) k x) l
     ∙ ap (λ (z : List ℕ). set z k x) (set-before old (k + 1) run y (omega arith))
     ∙ set-before old k (y ∷ run) x (omega arith)
-
--- ---- a run of vertices made another, and those after it
-
-pub run-replaced : (work fresh mid last : List Float) (at old size rest : ℕ) → 3 * (at + old + rest) ≤ length work → 3 * (size + rest) ≤ length fresh →
-    mid ≡ splice fresh (3 * size) (take (3 * rest) (drop (3 * (at + old)) work)) → last ≡ splice work (3 * at) (take (3 * (size + rest)) mid) →
-    last ≡ splice work (3 * at) (take (3 * size) fresh ++ take (3 * rest) (drop (3 * (at + old)) work))
-run-replaced work fresh mid last at old size rest room known first second =
-    let run = take (3 * rest) (drop (3 * (at + old)) work) in
-    let l : length run ≡ 3 * rest = length-take-le (3 * rest) (drop (3 * (at + old)) work) (rw length-drop (omega arith)) in
-    let n : 3 * (size + rest) ≡ 3 * size + length run = omega arith in
-    second ∙ ap (splice work (3 * at)) (ap₂ take n first ∙ take-past-splice fresh (3 * size) run (omega arith))

@@ -1,16 +1,16 @@
--- Vertices moved one place further, the last one first: one step of the loop, and a point written before them. Assumes nothing.
+-- Vertices moved one place further, the last one first: one step of the loop, and a point written before them; numbers likewise. Assumes nothing.
 use mathlib.Core.Path.{_≡_, sym, ap, _∙_}
 use mathlib.Core.List.{List, [], _∷_, _++_, append-assoc}
 use Prim.Native.Nat.{ℕ, zero, suc, _+_, _-_, _*_, _≤_, _<_}
 use native.Mathlib.Omega.{arith}
-use lib.ListN.{length, getD, take, drop, length-append, length-drop}
+use lib.ListN.{length, getD, take, drop, set, length-append, length-drop}
 use lib.Seq.{length-take-le, take-nil, take-append-le, take-take, drop-at, take-add, drop-drop, getD-take}
 use lib.Ieee.{Float, nan}
 use Rattle.sphericalpoint.specs.declared.SphericalPoint.{SphericalPoint}
 use Rattle.arcstring.specs.Points.{pointAt}
 use Rattle.arcstring.specs.Splice.{splice}
 use Rattle.arcstring.proofs.Flat.{take-next, point-at-drop}
-use Rattle.arcstring.proofs.Splices.{take-splice, splice-nothing}
+use Rattle.arcstring.proofs.Splices.{length-splice, take-splice, splice-nothing, set-splice}
 
 abbrev pub floats : SphericalPoint → List Float
 floats p = p .x ∷ p .y ∷ p .z ∷ []
@@ -91,3 +91,14 @@ shift-all old mid last n i k p end within room before after =
     after
     ∙ ap (λ (l : List Float). splice l (3 * k) (floats p)) (before ∙ ap (shifted old n) end)
     ∙ splice-before old (3 * k) (floats p) (take (3 * (n - k)) (drop (3 * k) old)) (3 * (k + 1)) (omega arith) (omega arith)
+
+-- a number written before numbers that were moved one place further
+pub put-before : (old list : List ℕ) (n i k x : ℕ) → i ≡ k → k ≤ n → n < length old → list ≡ splice old (i + 1) (take (n - i) (drop i old))
+    → set list k x ≡ splice old k (x ∷ take (n - k) (drop k old))
+put-before old list n i k x end within room before =
+    let run = take (n - k) (drop k old) in
+    let l : length run ≡ n - k = length-take-le (n - k) (drop k old) (rw length-drop (omega arith)) in
+    let same : length (splice old (k + 1) run) ≡ length old = length-splice old (k + 1) run (omega arith) in
+    ap (λ (m : List ℕ). set m k x) (before ∙ ap (λ (j : ℕ). splice old (j + 1) (take (n - j) (drop j old))) end)
+    ∙ set-splice (splice old (k + 1) run) k x (omega arith)
+    ∙ splice-before old k (x ∷ []) run (k + 1) (omega arith) (omega arith)

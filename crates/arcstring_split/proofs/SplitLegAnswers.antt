@@ -5,7 +5,6 @@ use mathlib.Core.Option.{Option, none, some}
 use Prim.Native.Nat.{ℕ, _*_, _≤_, _<_}
 use native.Mathlib.Omega.{arith}
 use lib.ListN.{length, take, drop}
-use lib.Seq.{length-take-le}
 use lib.Ieee.{Float}
 use Rattle.sphericalpoint.specs.declared.SphericalPoint.{SphericalPoint}
 use Rattle.arcstring.specs.declared.check.Refusal.{Refusal}
@@ -19,10 +18,9 @@ use Rattle.arcstring.specs.Check.{checkNumber, listCheck, roomCheck}
 use Rattle.arcstring.proofs.Answers.{pass, refuse, answer-refused-first, answer-accepted-first, second-passes}
 use Rattle.arcstring.proofs.Checks.{WholeList, whole-list}
 use Rattle.arcstring.proofs.Rooms.{no-room, room-enough}
-use Rattle.arcstring.proofs.Splices.{take-past-splice, spliced-next}
+use Rattle.arcstring.proofs.Splices.{take-past-splice, spliced-next, splice-start}
 use Rattle.arcstring.specs.Work.{firstOfList}
 use Rattle.arcstring.proofs.Firsts.{length-first-of-list}
-use Rattle.arcstring.proofs.Handed.{written}
 use Rattle.arcstring_crossing.specs.Crossing.{Leg, leg, legCheck}
 use Rattle.arcstring_split.specs.declared.split.Cut.{Cut}
 use Rattle.arcstring_split.specs.declared.split.Cut.the-variants as C
@@ -30,6 +28,7 @@ use Rattle.arcstring_split.specs.Steps.{forEach, extraCheck}
 use Rattle.arcstring_split.specs.Pieces.{legsOf, heldLegs}
 use Rattle.arcstring_split.specs.SplitLeg.{cutLegs, unlessUncut, pieceCount, ofPieces, legFloats, legsInto, splitLeg}
 use Rattle.arcstring_split.proofs.Shifts.{floats}
+use Rattle.arcstring_split.proofs.Inserted.{first-floats}
 use Rattle.arcstring_split.proofs.LegPairs.{points-of-legs}
 use Rattle.arcstring_split.proofs.LegSplits.{length-legs-of-first}
 use Rattle.arcstring_split.proofs.Uncut.{one-uncut, two-cut}
@@ -47,8 +46,11 @@ one-leg l s e w w1 w2 start end first second =
 
 legs-written : (m : ℕ) (w old : List Float) → 6 * m ≤ length w → splice old 0 (take (3 * (2 * m)) w) ≡ legFloats (legsOf (firstOfList (2 * m) w)) ++ drop (length (legFloats (legsOf (firstOfList (2 * m) w)))) old
 legs-written m w old room =
-    written (2 * m) w old (length-take-le (3 * (2 * m)) w (omega arith))
-    ∙ ap (λ (ps : List SphericalPoint). flat ps ++ drop (length (flat ps)) old) (sym (points-of-legs m (firstOfList (2 * m) w) (length-first-of-list (2 * m) w (omega arith))))
+    splice-start old (take (3 * (2 * m)) w)
+    ∙ sym
+    (ap (λ (ps : List SphericalPoint). flat ps ++ drop (length (flat ps)) old)
+    (points-of-legs m (firstOfList (2 * m) w) (length-first-of-list (2 * m) w (omega arith)))
+    ∙ ap (λ (v : List Float). v ++ drop (length v) old) (first-floats w (2 * m) (omega arith)))
 
 -- ---- the answer, and the buffer: k is what the checks of the leg and of the points answer
 

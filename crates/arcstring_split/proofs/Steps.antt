@@ -1,37 +1,48 @@
 -- Steps taken in turn: how a step's answer, or its refusal, decides the whole; and the check of a result. Assumes nothing.
-use mathlib.Core.Path.{_≡_, ap, _∙_}
+use mathlib.Core.Path.{_≡_, sym, ap, ap₂, _∙_}
 use mathlib.Core.Bool.{Bool}
-use mathlib.Core.List.{List, [], _∷_}
+use mathlib.Core.List.{List, _∷_}
 use Prim.Native.Nat.{ℕ, suc, _+_, _-_, _*_, _≤_, _<_}
+use native.Mathlib.Numerals.{add-one}
 use native.Mathlib.Omega.{arith}
-use lib.ListN.{length, drop, drop-of-length-le}
+use lib.ListN.{length, getD, drop, drop-of-length-le}
+use lib.Seq.{drop-cons}
 use lib.Ieee.{Float}
 use borrow.Author.Tests.{lt-ltb, le-ltb}
-use Rattle.sphericalpoint.specs.declared.SphericalPoint.{SphericalPoint}
+use Rattle.arcstring.specs.declared.vertex.Vertex.{Vertex}
 use Rattle.arcstring.specs.Answer.{Answer, refused, answered, unlessRefused, andThen, numberIf}
-use Rattle.arcstring.specs.Points.{points, pointAt}
-use Rattle.arcstring.proofs.Flat.{points-next, length-points}
+use Rattle.arcstring.specs.Points.{numbered, points}
+use Rattle.arcstring.specs.Positions.{vertexAt}
+use Rattle.arcstring.proofs.Flat.{points-next}
+use Rattle.arcstring.proofs.Numbered.{numbered-drop}
 use Rattle.arcstring.proofs.Answers.{then-refused, then-answered}
 use Rattle.arcstring_split.specs.Steps.{forEach, forPositions, limited}
 
--- ---- a step for each point of a flat list
+-- ---- a step for each element of a list, from element i on
 
-module _ {B : Type 0} (f : SphericalPoint → B → Answer B) (v : List Float) (n : ℕ) (whole : length v ≡ 3 * n) (i : ℕ) (x : B) where
-  each-step : i < n → forEach f (drop i (points v)) x ≡ andThen (f (pointAt v i) x) (forEach f (drop (i + 1) (points v)))
+module _ {A B : Type 0} (f : A → B → Answer B) (l : List A) (i : ℕ) (x : B) where
+  module _ (a : A) (next : drop i l ≡ a ∷ drop (i + 1) l) where
+    each-step : forEach f (drop i l) x ≡ andThen (f a x) (forEach f (drop (i + 1) l))
+    unfolding forEach
+    each-step = ap (λ (m : List A). forEach f m x) next
+
+    pub each-on : (y : B) → f a x ≡ answered y → forEach f (drop i l) x ≡ forEach f (drop (i + 1) l) y
+    each-on y e = each-step ∙ then-answered (f a x) (forEach f (drop (i + 1) l)) y e
+
+    pub each-stops : (r : ℕ) → f a x ≡ refused r → forEach f (drop i l) x ≡ refused r
+    each-stops r e = each-step ∙ then-refused (f a x) (forEach f (drop (i + 1) l)) r e
+
+  pub each-end : length l ≤ i → forEach f (drop i l) x ≡ answered x
   unfolding forEach
-  each-step h = ap (λ (ps : List SphericalPoint). forEach f ps x) (points-next n v i whole h)
+  each-end h = ap (λ (m : List A). forEach f m x) (drop-of-length-le l h)
 
-  pub each-on : (y : B) → i < n → f (pointAt v i) x ≡ answered y → forEach f (drop i (points v)) x ≡ forEach f (drop (i + 1) (points v)) y
-  each-on y h e = each-step h ∙ then-answered (f (pointAt v i) x) (forEach f (drop (i + 1) (points v))) y e
-
-  pub each-stops : (r : ℕ) → i < n → f (pointAt v i) x ≡ refused r → forEach f (drop i (points v)) x ≡ refused r
-  each-stops r h e = each-step h ∙ then-refused (f (pointAt v i) x) (forEach f (drop (i + 1) (points v))) r e
-
-  pub each-end : n ≤ i → forEach f (drop i (points v)) x ≡ answered x
-  unfolding forEach
-  each-end h =
-      let l : length (points v) ≤ i = omega (arith, length-points n v whole) in
-      ap (λ (ps : List SphericalPoint). forEach f ps x) (drop-of-length-le (points v) l)
+-- the vertices of a flat list and of its numbers from i on begin with vertex i
+pub vertices-next : (v : List Float) (bs : List ℕ) (n i : ℕ) → length v ≡ 3 * n → length bs ≡ n → i < n
+    → drop i (numbered (points v) bs) ≡ vertexAt v bs i ∷ drop (i + 1) (numbered (points v) bs)
+vertices-next v bs n i whole same h =
+    sym (numbered-drop i (points v) bs)
+    ∙ ap₂ numbered (points-next n v i whole h) (drop-cons bs i 0 (omega arith) ∙ ap (λ (j : ℕ). getD bs i 0 ∷ drop j bs) (sym (add-one i)))
+    ∙ ap (λ (vs : List Vertex). vertexAt v bs i ∷ vs) (numbered-drop (i + 1) (points v) bs)
 
 -- ---- a step for each position up to m
 

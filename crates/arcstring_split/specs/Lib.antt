@@ -3,4 +3,5 @@ pub mod Steps
 pub mod Insert
 pub mod SplitLeg
 pub mod Split
+pub mod BuoyLaws
 pub mod Pieces

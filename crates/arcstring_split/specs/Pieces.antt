@@ -9,7 +9,8 @@ use lib.Dec.{eqb}
 use lib.Ieee.{Float}
 use Rattle.sphericalpoint.specs.declared.SphericalPoint.{SphericalPoint}
 use Rattle.arcstring.specs.Answer.{Answer, refused, answered, andThen, flagNumber, refusalNumber}
-use Rattle.arcstring.specs.Points.{ArcString, points}
+use Rattle.arcstring.specs.declared.vertex.Vertex.{Vertex}
+use Rattle.arcstring.specs.Points.{StringOf, numbered, placesOf, points}
 use Rattle.arcstring.specs.Work.{firstOfList}
 use Rattle.arcstring_crossing.specs.Crossing.{Leg, leg}
 use Rattle.arcstring_split.specs.declared.split.Cut.{Cut}
@@ -32,14 +33,14 @@ cutCount (C.Pieces m) = m
 cutCount (C.Refused e) = 0
 
 -- a built piece: its near list is its vertices
-abbrev pub piece : List SphericalPoint → Bool → ArcString
-piece ps closed = record { vertices = ps; near = ps; closed = closed }
+abbrev pub piece : List Vertex → Bool → StringOf Vertex
+piece vs closed = record { vertices = vs; near = placesOf vs; closed = closed }
 
 -- pieces by their counts and flags, one after another; a flag is 0 for open
-unfoldable pub piecesOf : List ℕ → List ℕ → List SphericalPoint → List ArcString
-piecesOf [] flags ps = []
-piecesOf (c ∷ counts) [] ps = []
-piecesOf (c ∷ counts) (f ∷ flags) ps = piece (take c ps) (not (eqb f 0)) ∷ piecesOf counts flags (drop c ps)
+unfoldable pub piecesOf : List ℕ → List ℕ → List Vertex → List (StringOf Vertex)
+piecesOf [] flags vs = []
+piecesOf (c ∷ counts) [] vs = []
+piecesOf (c ∷ counts) (f ∷ flags) vs = piece (take c vs) (not (eqb f 0)) ∷ piecesOf counts flags (drop c vs)
 
 abbrev pub sum : List ℕ → ℕ
 sum [] = 0
@@ -50,17 +51,18 @@ abbrev pub allSome : List ℕ → Bool
 allSome [] = true
 allSome (n ∷ ns) = not (eqb n 0) && allSome ns
 
--- the first m pieces of a list that is worked on
-unfoldable pub firstPieces : ℕ → List Float → List ℕ → List ℕ → List ArcString
-firstPieces m v counts flags = piecesOf (take m counts) (take m flags) (points v)
+-- the first m pieces of lists that are worked on: vertices, their numbers, counts and flags
+unfoldable pub firstPieces : ℕ → List Float → List ℕ → List ℕ → List ℕ → List (StringOf Vertex)
+firstPieces m v buoys counts flags = piecesOf (take m counts) (take m flags) (numbered (points v) buoys)
 
-abbrev pub heldPieces : Cut → List Float → List ℕ → List ℕ → Answer (List ArcString)
-heldPieces (C.Pieces m) v counts flags = answered (firstPieces m v counts flags)
-heldPieces (C.Refused e) v counts flags = refused (refusalNumber e)
+abbrev pub heldPieces : Cut → List Float → List ℕ → List ℕ → List ℕ → Answer (List (StringOf Vertex))
+heldPieces (C.Pieces m) v buoys counts flags = answered (firstPieces m v buoys counts flags)
+heldPieces (C.Refused e) v buoys counts flags = refused (refusalNumber e)
 
 -- Room for m pieces: none of them empty, at most 1,024 points together, and so at most 1,024 pieces.
-pub record Stands (m : ℕ) (v : List Float) (counts flags : List ℕ) : Type 0 where
+pub record Stands (m : ℕ) (v : List Float) (buoys counts flags : List ℕ) : Type 0 where
   pub floats : length v ≡ 3072
+  pub buoys-room : length buoys ≡ 1024
   pub counts-room : length counts ≡ 1024
   pub flags-room : length flags ≡ 1024
   pub pieces : m ≤ 1024
@@ -72,6 +74,6 @@ abbrev pub flagsOf : List ℕ → List ℕ
 flagsOf flags = map (λ (f : ℕ). flagNumber (not (eqb f 0))) flags
 
 -- what a split answers once its pieces stand in the local lists
-abbrev pub handedOver : Cut → List Float → List ℕ → List ℕ → ℕ → ℕ → ℕ → Answer (Option (List ArcString))
-handedOver cut v counts flags room countsRoom flagsRoom =
-    andThen (heldPieces cut v counts flags) (λ (ss : List ArcString). piecesInto room countsRoom flagsRoom (unlessUncut ss))
+abbrev pub handedOver : Cut → List Float → List ℕ → List ℕ → List ℕ → ℕ → ℕ → ℕ → ℕ → Answer (Option (List (StringOf Vertex)))
+handedOver cut v buoys counts flags room buoyRoom countsRoom flagsRoom =
+    andThen (heldPieces cut v buoys counts flags) (λ (ss : List (StringOf Vertex)). piecesInto room buoyRoom countsRoom flagsRoom (unlessUncut ss))

@@ -2,83 +2,106 @@
 use mathlib.Core.Bool.{Bool, false}
 use mathlib.Core.List.{List, [], _∷_, _++_, map}
 use mathlib.Core.Option.{Option, none, some}
-use Prim.Native.Nat.{ℕ, _+_, _*_}
+use Prim.Native.Nat.{ℕ, _+_}
 use lib.ListN.{length, getD, take, drop}
 use lib.Dec.{ltb}
 use lib.Ieee.{Float}
 use Rattle.sphericalpoint.specs.declared.SphericalPoint.{SphericalPoint}
 use Rattle.arcstring.specs.Answer.{Answer, answered, unlessRefused, firstOf, andThen, flagNumber, pick}
-use Rattle.arcstring.specs.Points.{ArcString, points, flat, copied}
-use Rattle.arcstring.specs.Check.{storedCheck, roomCheck}
-use Rattle.arcstring.specs.Build.{builtString}
+use Rattle.arcstring.specs.declared.vertex.Vertex.{Vertex}
+use Rattle.arcstring.specs.Points.{numbered, placeOf, placesOf, buoysOf, StringOf, points, flat}
+use Rattle.arcstring.specs.Check.{stringCheck, pointsCheck, roomCheck, roomsCheck}
+use Rattle.arcstring.specs.Build.{builtNumbered}
 use Rattle.arcstring_crossing.specs.Tally.{legCount}
-use Rattle.arcstring_relation.specs.OnString.{alongLeg, stored}
-use Rattle.arcstring_split.specs.Steps.{forEach, forPositions, legFrom, extraCheck, limited}
+use Rattle.arcstring_relation.specs.OnString.{alongLeg}
+use Rattle.arcstring_split.specs.Steps.{forEach, forPositions, legFrom, limited}
 use Rattle.arcstring_split.specs.SplitLeg.{unlessUncut}
 
 -- ---- one cut
 
 -- what the first piece of a cut at leg i is built from: the vertices up to the leg's start, and the point
-unfoldable pub firstPoints : SphericalPoint → List SphericalPoint → ℕ → List SphericalPoint
-firstPoints p ps i = take (i + 1) ps ++ (p ∷ [])
+unfoldable pub firstPoints : {A : Type 0} → A → List A → ℕ → List A
+firstPoints x xs i = take (i + 1) xs ++ (x ∷ [])
 
 -- and the second: the point, and the vertices from the leg's end on; the closing leg's end is vertex 0 alone
-unfoldable pub secondPoints : SphericalPoint → List SphericalPoint → ℕ → List SphericalPoint
-secondPoints p ps i = p ∷ pick (ltb (i + 1) (length ps)) (drop (i + 1) ps) (take 1 ps)
+unfoldable pub secondPoints : {A : Type 0} → A → List A → ℕ → List A
+secondPoints x xs i = x ∷ pick (ltb (i + 1) (length xs)) (drop (i + 1) xs) (take 1 xs)
 
 -- all pieces together, as stored
-abbrev pub pointsIn : List ArcString → ℕ
+abbrev pub pointsIn : {A : Type 0} → List (StringOf A) → ℕ
 pointsIn [] = 0
 pointsIn (s ∷ ss) = length (s .vertices) + pointsIn ss
 
--- A cut at leg i of the vertices ps: a new first piece takes place k, and a new second piece stands right after it. Both are built anew, and their near lists are their vertices.
--- 3: all pieces together hold over 1,024 points.
-unfoldable pub cutAt : SphericalPoint → List SphericalPoint → ℕ → ℕ → List ArcString → Answer (List ArcString)
-cutAt p ps k i ss =
-    let cut = take k ss ++ (builtString (firstPoints p ps i) ∷ builtString (secondPoints p ps i) ∷ drop (k + 1) ss) in
-    limited (pointsIn cut) cut
-
--- ---- one point
-
--- leg i of the copy that was taken of the string at place k
-unfoldable pub cutAtLeg : SphericalPoint → List SphericalPoint → ℕ → ℕ → List ArcString → Answer (List ArcString)
-cutAtLeg p ps k i ss = pick (alongLeg p (legFrom ps i)) (cutAt p ps k i ss) (answered ss)
-
-abbrev pub noString : ArcString
+abbrev pub noString : {A : Type 0} → StringOf A
 noString = record { vertices = []; near = []; closed = false }
 
--- the walk over the legs of the string at place k goes on over its uncut copy after a cut
-unfoldable pub cutPlace : SphericalPoint → ℕ → List ArcString → Answer (List ArcString)
-cutPlace p k ss =
-    let copy = getD ss k noString in
-    forPositions (cutAtLeg p (copy .vertices) k) 0 (legCount (length (copy .vertices)) (copy .closed)) ss
+-- ---- of strings of any elements: `pt` gives an element's point, and `built` the string that a list of them makes
 
--- the number of strings is fixed before the point; a new piece may be visited, and an old one pushed past the last place
-unfoldable pub cutString : SphericalPoint → List ArcString → Answer (List ArcString)
-cutString p ss = forPositions (cutPlace p) 0 (length ss) ss
+module _ {A : Type 0} (pt : A → SphericalPoint) (built : List A → StringOf A) where
+  -- A cut at leg i of the vertices xs: a new first piece takes place k, and a new second piece stands right after it. Both are built anew.
+  -- 3: all pieces together hold over 1,024 points.
+  unfoldable pub cutAt : A → List A → ℕ → ℕ → List (StringOf A) → Answer (List (StringOf A))
+  cutAt x xs k i ss =
+      let cut = take k ss ++ (built (firstPoints x xs i) ∷ built (secondPoints x xs i) ∷ drop (k + 1) ss) in
+      limited (pointsIn cut) cut
+
+  -- leg i of the copy that was taken of the string at place k
+  unfoldable pub cutAtLeg : A → List A → ℕ → ℕ → List (StringOf A) → Answer (List (StringOf A))
+  cutAtLeg x xs k i ss = pick (alongLeg (pt x) (legFrom (map pt xs) i)) (cutAt x xs k i ss) (answered ss)
+
+  -- the walk over the legs of the string at place k goes on over its uncut copy after a cut
+  unfoldable pub cutPlace : A → ℕ → List (StringOf A) → Answer (List (StringOf A))
+  cutPlace x k ss =
+      let copy = getD ss k noString in
+      forPositions (cutAtLeg x (copy .vertices) k) 0 (legCount (length (copy .vertices)) (copy .closed)) ss
+
+  -- the number of strings is fixed before the point; a new piece may be visited, and an old one pushed past the last place
+  unfoldable pub cutString : A → List (StringOf A) → Answer (List (StringOf A))
+  cutString x ss = forPositions (cutPlace x) 0 (length ss) ss
+
+  -- one string, cut at each of the elements in turn
+  unfoldable pub cutAll : List A → StringOf A → Answer (List (StringOf A))
+  cutAll extra s = forEach cutString extra (s ∷ [])
+
+-- ---- what is written of pieces: vertices, numbers, counts, flags
+
+abbrev pub pieceFloats : List (StringOf Vertex) → List Float
+pieceFloats [] = []
+pieceFloats (s ∷ ss) = flat (placesOf (s .vertices)) ++ pieceFloats ss
+
+abbrev pub pieceBuoys : List (StringOf Vertex) → List ℕ
+pieceBuoys [] = []
+pieceBuoys (s ∷ ss) = buoysOf (s .vertices) ++ pieceBuoys ss
+
+abbrev pub pieceCounts : {A : Type 0} → List (StringOf A) → List ℕ
+pieceCounts {A} ss = map (λ (s : StringOf A). length (s .vertices)) ss
+
+-- 1 for a closed piece, 0 for an open one
+abbrev pub pieceFlags : {A : Type 0} → List (StringOf A) → List ℕ
+pieceFlags {A} ss = map (λ (s : StringOf A). flagNumber (s .closed)) ss
 
 -- ---- the call
 
-abbrev pub pieceFloats : List ArcString → List Float
-pieceFloats [] = []
-pieceFloats (s ∷ ss) = flat (s .vertices) ++ pieceFloats ss
+-- 7 looks at all four buffers; uncut always fits
+abbrev pub piecesInto : {A : Type 0} → ℕ → ℕ → ℕ → ℕ → Option (List (StringOf A)) → Answer (Option (List (StringOf A)))
+piecesInto room buoyRoom countsRoom flagsRoom none = answered none
+piecesInto room buoyRoom countsRoom flagsRoom (some ss) =
+    unlessRefused (firstOf (roomsCheck (pointsIn ss) room buoyRoom) (firstOf (roomCheck (length ss) countsRoom) (roomCheck (length ss) flagsRoom)))
+    (answered (some ss))
 
-abbrev pub pieceCounts : List ArcString → List ℕ
-pieceCounts ss = map (λ (s : ArcString). length (s .vertices)) ss
+-- the checks of a split into four buffers, and what a split answers if none refuses
+unfoldable pub splitInto : {A : Type 0} → List Float → List ℕ → List Float → List ℕ → ℕ → ℕ → ℕ → ℕ → Answer (List (StringOf A))
+    → Answer (Option (List (StringOf A)))
+splitInto {A} v buoys extra extraBuoys room buoyRoom countsRoom flagsRoom a =
+    unlessRefused (stringCheck v buoys)
+    (unlessRefused (pointsCheck extra extraBuoys) (andThen a (λ (ss : List (StringOf A)). piecesInto room buoyRoom countsRoom flagsRoom (unlessUncut ss))))
 
--- 1 for a closed piece, 0 for an open one
-abbrev pub pieceFlags : List ArcString → List ℕ
-pieceFlags ss = map (λ (s : ArcString). flagNumber (s .closed)) ss
+-- The string is copied, as the Rust copies it: its near list is not looked at, so that none is handed in, and the copy's is its vertices.
+abbrev pub numberedCopy : List Float → List ℕ → Bool → StringOf Vertex
+numberedCopy v buoys closed = record { vertices = numbered (points v) buoys; near = points v; closed = closed }
 
--- 7 looks at all three buffers; uncut always fits
-abbrev pub piecesInto : ℕ → ℕ → ℕ → Option (List ArcString) → Answer (Option (List ArcString))
-piecesInto room countsRoom flagsRoom none = answered none
-piecesInto room countsRoom flagsRoom (some ss) =
-    unlessRefused (firstOf (roomCheck (3 * pointsIn ss) room) (firstOf (roomCheck (length ss) countsRoom) (roomCheck (length ss) flagsRoom))) (answered (some ss))
-
--- The string is copied, as the Rust copies it: its near list is not looked at, so that none is handed in.
-unfoldable pub splitString : List Float → Bool → List Float → ℕ → ℕ → ℕ → Answer (Option (List ArcString))
-splitString v closed extra room countsRoom flagsRoom =
-    unlessRefused (storedCheck v)
-    (unlessRefused (extraCheck extra)
-    (andThen (forEach cutString (points extra) (copied (stored v [] closed) ∷ [])) (λ (ss : List ArcString). piecesInto room countsRoom flagsRoom (unlessUncut ss))))
+-- a point cut at brings its own number into both pieces
+unfoldable pub splitString : List Float → List ℕ → Bool → List Float → List ℕ → ℕ → ℕ → ℕ → ℕ → Answer (Option (List (StringOf Vertex)))
+splitString v buoys closed extra extraBuoys room buoyRoom countsRoom flagsRoom =
+    splitInto v buoys extra extraBuoys room buoyRoom countsRoom flagsRoom
+    (cutAll placeOf builtNumbered (numbered (points extra) extraBuoys) (numberedCopy v buoys closed))

@@ -1,14 +1,13 @@
-// The pieces of a split string, cut in place in local lists: their vertices one piece after another, how many vertices each
-// has, and the flag of each.
+// The pieces of a split string, cut in place in local lists: their vertices one piece after another, the numbers of these, how many
+// vertices each piece has, and the flag of each.
 ghost use mathlib.Core.Path.{_≡_};
 ghost use mathlib.Core.List.{_++_, _∷_};
 ghost use Prim.Native.Nat.{_+_, _-_, _*_, _≤_, _<_};
 ghost use lib.ListN.{length, take, drop};
 ghost use Rattle.arcstring.specs.Answer.{flagNumber};
-ghost use Rattle.arcstring.specs.Points.{points};
+ghost use Rattle.arcstring.specs.Points.{numbered, placeOf, points};
 ghost use Rattle.arcstring.specs.Splice.{splice};
-ghost use Rattle.arcstring.specs.Build.{builtString};
-ghost use Rattle.arcstring.specs.Work.{firstOfList};
+ghost use Rattle.arcstring.specs.Build.{builtNumbered};
 ghost use Rattle.arcstring_split.specs.Steps.{forEach, forPositions};
 ghost use Rattle.arcstring_split.specs.Pieces.{sum, firstPieces, heldPieces, cutCount, Stands};
 ghost use Rattle.arcstring_split.specs.Split.{firstPoints, secondPoints, cutAt, cutAtLeg, cutString};
@@ -18,9 +17,9 @@ use crate::piece::Piece;
 use crate::split::Cut;
 use arcstring::check::Refusal;
 use arcstring::vertex;
+use arcstring::vertex::Vertex;
 use arcstring_crossing::tally;
 use arcstring_relation::on_string;
-use sphericalpoint::SphericalPoint;
 
 // The sum of the first m numbers.
 pub(crate) fn sum_of(list: &[usize], m: usize) -> usize
@@ -56,21 +55,36 @@ struct Halves {
     second: Piece,
 }
 
-// The pieces of a cut at leg i of the n vertices of `v`, each built from the place in `out` where the one before it ends.
-fn build_halves(v: &[f64], n: usize, i: usize, p: SphericalPoint, out: &mut [f64]) -> Halves
-    requires { ⌜ (length (now v) ≡ 3 * n) × (i < n) × (n ≤ 1024) × (length (now out) ≡ 6150) ⌝ }
-    ensures { λ r. ⌜ (r .first .count ≡ length (builtString (firstPoints p (points (now (v .entry))) i) .vertices)) × (r .first .flag ≡ flagNumber (builtString (firstPoints p (points (now (v .entry))) i) .closed)) × (1 ≤ r .first .count) ⌝ }
-    ensures { λ r. ⌜ (r .second .count ≡ length (builtString (secondPoints p (points (now (v .entry))) i) .vertices)) × (r .second .flag ≡ flagNumber (builtString (secondPoints p (points (now (v .entry))) i) .closed)) × (1 ≤ r .second .count) ⌝ }
-    ensures { λ r. ⌜ (firstOfList (r .first .count + r .second .count) (now (out .exit)) ≡ builtString (firstPoints p (points (now (v .entry))) i) .vertices ++ builtString (secondPoints p (points (now (v .entry))) i) .vertices) × (r .first .count + r .second .count ≤ 2050) ⌝ }
+// The pieces of a cut at leg i of the vertices of `v`, each built from the place in `out` where the one before it ends.
+fn build_halves(
+    v: &[f64],
+    buoys: &[u32],
+    i: usize,
+    x: Vertex,
+    out: &mut [f64],
+    out_buoys: &mut [u32],
+) -> Halves
+    requires { ⌜ (length (now v) ≡ 3 * length (now buoys)) × (i < length (now buoys)) × (length (now buoys) ≤ 1024) × (length (now out) ≡ 6150) × (length (now «out_buoys») ≡ 2050) ⌝ }
+    ensures { λ r. ⌜ (r .first .count ≡ length (builtNumbered (firstPoints x (numbered (points (now (v .entry))) (now (buoys .entry))) i) .vertices)) × (r .first .flag ≡ flagNumber (builtNumbered (firstPoints x (numbered (points (now (v .entry))) (now (buoys .entry))) i) .closed)) × (1 ≤ r .first .count) ⌝ }
+    ensures { λ r. ⌜ (r .second .count ≡ length (builtNumbered (secondPoints x (numbered (points (now (v .entry))) (now (buoys .entry))) i) .vertices)) × (r .second .flag ≡ flagNumber (builtNumbered (secondPoints x (numbered (points (now (v .entry))) (now (buoys .entry))) i) .closed)) × (1 ≤ r .second .count) ⌝ }
+    ensures { λ r. ⌜ (take (r .first .count + r .second .count) (numbered (points (now (out .exit))) (now («out_buoys» .exit))) ≡ builtNumbered (firstPoints x (numbered (points (now (v .entry))) (now (buoys .entry))) i) .vertices ++ builtNumbered (secondPoints x (numbered (points (now (v .entry))) (now (buoys .entry))) i) .vertices) × (r .first .count + r .second .count ≤ 2050) ⌝ }
 {
     let mut from = [0.0; 3078];
-    piece::first_points(v, i, p, &mut from);
-    let end = 3 * (i + 2);
-    let first = piece::build_piece(&from[..end], i + 2, out);
-    let count = piece::second_points(v, n, i, p, &mut from);
+    let mut numbers = [0; 1026];
+    piece::first_points(v, buoys, i, x, &mut from, &mut numbers);
+    let count = i + 2;
     let end = 3 * count;
-    let at = 3 * first.count;
-    let second = piece::build_piece(&from[..end], count, &mut out[at..]);
+    let first = piece::build_piece(&from[..end], &numbers[..count], out, out_buoys);
+    let count = piece::second_points(v, buoys, i, x, &mut from, &mut numbers);
+    let end = 3 * count;
+    let at = first.count;
+    let start = 3 * at;
+    let second = piece::build_piece(
+        &from[..end],
+        &numbers[..count],
+        &mut out[start..],
+        &mut out_buoys[at..],
+    );
     Halves { first, second }
 }
 
@@ -91,25 +105,44 @@ fn replace_run(
     vertex::copy_run(fresh, 0, size + rest, work, at);
 }
 
+// The same of numbers.
+fn replace_buoys(
+    buoys: &mut [u32],
+    at: usize,
+    old: usize,
+    total: usize,
+    fresh: &mut [u32],
+    size: usize,
+)
+    requires { ⌜ (at + old ≤ total) × (total ≤ length (now buoys)) × (at + size + (total - (at + old)) ≤ length (now buoys)) × (size + (total - (at + old)) ≤ length (now fresh)) ⌝ }
+    ensures { λ _. ⌜ now (buoys .exit) ≡ splice (now (buoys .entry)) at (take size (now (fresh .entry)) ++ take (total - (at + old)) (drop (at + old) (now (buoys .entry)))) ⌝ }
+{
+    let rest = total - (at + old);
+    vertex::copy_buoys(buoys, at + old, rest, fresh, size);
+    vertex::copy_buoys(fresh, 0, size + rest, buoys, at);
+}
+
 // A cut at leg i of `copy`: a new first piece takes place k, which starts at vertex `at`, and a new second piece stands after it.
 fn cut_at(
     copy: &[f64],
-    n: usize,
+    copy_buoys: &[u32],
     i: usize,
-    p: SphericalPoint,
+    x: Vertex,
     work: &mut [f64],
+    buoys: &mut [u32],
     counts: &mut [usize],
     flags: &mut [usize],
     m: usize,
     k: usize,
     at: usize,
 ) -> Cut
-    requires { ⌜ (length (now copy) ≡ 3 * n) × (i < n) × (n ≤ 1024) × (k < m) × (at ≡ sum (take k (now counts))) × Stands m (now work) (now counts) (now flags) ⌝ }
-    ensures { λ r. ⌜ heldPieces r (now (work .exit)) (now (counts .exit)) (now (flags .exit)) ≡ cutAt p (points (now (copy .entry))) k i (firstPieces m (now (work .entry)) (now (counts .entry)) (now (flags .entry))) ⌝ }
-    ensures { λ r. ⌜ Stands (cutCount r) (now (work .exit)) (now (counts .exit)) (now (flags .exit)) × (take k (now (counts .exit)) ≡ take k (now (counts .entry))) ⌝ }
+    requires { ⌜ (length (now copy) ≡ 3 * length (now «copy_buoys»)) × (i < length (now «copy_buoys»)) × (length (now «copy_buoys») ≤ 1024) × (k < m) × (at ≡ sum (take k (now counts))) × Stands m (now work) (now buoys) (now counts) (now flags) ⌝ }
+    ensures { λ r. ⌜ heldPieces r (now (work .exit)) (now (buoys .exit)) (now (counts .exit)) (now (flags .exit)) ≡ cutAt placeOf builtNumbered x (numbered (points (now (copy .entry))) (now («copy_buoys» .entry))) k i (firstPieces m (now (work .entry)) (now (buoys .entry)) (now (counts .entry)) (now (flags .entry))) ⌝ }
+    ensures { λ r. ⌜ Stands (cutCount r) (now (work .exit)) (now (buoys .exit)) (now (counts .exit)) (now (flags .exit)) × (take k (now (counts .exit)) ≡ take k (now (counts .entry))) ⌝ }
 {
     let mut fresh = [0.0; 6150];
-    let halves = build_halves(copy, n, i, p, &mut fresh);
+    let mut numbers = [0; 2050];
+    let halves = build_halves(copy, copy_buoys, i, x, &mut fresh, &mut numbers);
     let first = halves.first;
     let second = halves.second;
     let size = first.count + second.count;
@@ -119,6 +152,7 @@ fn cut_at(
         return Cut::Refused(Refusal::TooManyPoints);
     }
     replace_run(work, at, old, total, &mut fresh, size);
+    replace_buoys(buoys, at, old, total, &mut numbers, size);
     replace_number(counts, m, k, first.count, second.count);
     replace_number(flags, m, k, first.flag, second.flag);
     Cut::Pieces(m + 1)
@@ -127,28 +161,42 @@ fn cut_at(
 // The walk over the legs of `copy`, the string that stood at place k: each leg that the point is along is a cut there.
 fn cut_legs_of(
     copy: &[f64],
-    n: usize,
+    copy_buoys: &[u32],
     legs: usize,
-    p: SphericalPoint,
+    x: Vertex,
     work: &mut [f64],
+    buoys: &mut [u32],
     counts: &mut [usize],
     flags: &mut [usize],
     m: usize,
     k: usize,
     at: usize,
 ) -> Cut
-    requires { ⌜ (length (now copy) ≡ 3 * n) × (legs ≤ n) × (n ≤ 1024) × (k < m) × (at ≡ sum (take k (now counts))) × Stands m (now work) (now counts) (now flags) ⌝ }
-    ensures { λ r. ⌜ heldPieces r (now (work .exit)) (now (counts .exit)) (now (flags .exit)) ≡ forPositions (cutAtLeg p (points (now (copy .entry))) k) 0 legs (firstPieces m (now (work .entry)) (now (counts .entry)) (now (flags .entry))) ⌝ }
-    ensures { λ r. ⌜ Stands (cutCount r) (now (work .exit)) (now (counts .exit)) (now (flags .exit)) × (take k (now (counts .exit)) ≡ take k (now (counts .entry))) ⌝ }
+    requires { ⌜ (length (now copy) ≡ 3 * length (now «copy_buoys»)) × (legs ≤ length (now «copy_buoys»)) × (length (now «copy_buoys») ≤ 1024) × (k < m) × (at ≡ sum (take k (now counts))) × Stands m (now work) (now buoys) (now counts) (now flags) ⌝ }
+    ensures { λ r. ⌜ heldPieces r (now (work .exit)) (now (buoys .exit)) (now (counts .exit)) (now (flags .exit)) ≡ forPositions (cutAtLeg placeOf builtNumbered x (numbered (points (now (copy .entry))) (now («copy_buoys» .entry))) k) 0 legs (firstPieces m (now (work .entry)) (now (buoys .entry)) (now (counts .entry)) (now (flags .entry))) ⌝ }
+    ensures { λ r. ⌜ Stands (cutCount r) (now (work .exit)) (now (buoys .exit)) (now (counts .exit)) (now (flags .exit)) × (take k (now (counts .exit)) ≡ take k (now (counts .entry))) ⌝ }
 {
+    let n = copy_buoys.len();
     let mut more = m;
     let mut i = 0;
     while i < legs {
-        if !on_string::along_leg(p, tally::leg_at(copy, n, i)) {
+        if !on_string::along_leg(x.place, tally::leg_at(copy, n, i)) {
             i += 1;
             continue;
         }
-        let cut = cut_at(copy, n, i, p, work, counts, flags, more, k, at);
+        let cut = cut_at(
+            copy,
+            copy_buoys,
+            i,
+            x,
+            work,
+            buoys,
+            counts,
+            flags,
+            more,
+            k,
+            at,
+        );
         let Cut::Pieces(count) = cut else {
             return cut;
         };
@@ -161,43 +209,60 @@ fn cut_legs_of(
 // One point at place k, which starts at vertex `at`: the walk goes over a copy of the string that stands there.
 fn cut_place(
     work: &mut [f64],
+    buoys: &mut [u32],
     counts: &mut [usize],
     flags: &mut [usize],
     m: usize,
     k: usize,
     at: usize,
-    p: SphericalPoint,
+    x: Vertex,
     copy: &mut [f64],
+    copy_buoys: &mut [u32],
 ) -> Cut
-    requires { ⌜ (k < m) × (at ≡ sum (take k (now counts))) × Stands m (now work) (now counts) (now flags) × (length (now copy) ≡ 3072) ⌝ }
-    ensures { λ r. ⌜ heldPieces r (now (work .exit)) (now (counts .exit)) (now (flags .exit)) ≡ Split.cutPlace p k (firstPieces m (now (work .entry)) (now (counts .entry)) (now (flags .entry))) ⌝ }
-    ensures { λ r. ⌜ Stands (cutCount r) (now (work .exit)) (now (counts .exit)) (now (flags .exit)) × (take k (now (counts .exit)) ≡ take k (now (counts .entry))) ⌝ }
+    requires { ⌜ (k < m) × (at ≡ sum (take k (now counts))) × Stands m (now work) (now buoys) (now counts) (now flags) × (length (now copy) ≡ 3072) × (length (now «copy_buoys») ≡ 1024) ⌝ }
+    ensures { λ r. ⌜ heldPieces r (now (work .exit)) (now (buoys .exit)) (now (counts .exit)) (now (flags .exit)) ≡ Split.cutPlace placeOf builtNumbered x k (firstPieces m (now (work .entry)) (now (buoys .entry)) (now (counts .entry)) (now (flags .entry))) ⌝ }
+    ensures { λ r. ⌜ Stands (cutCount r) (now (work .exit)) (now (buoys .exit)) (now (counts .exit)) (now (flags .exit)) × (take k (now (counts .exit)) ≡ take k (now (counts .entry))) ⌝ }
 {
     let n = counts[k];
     vertex::copy_run(work, at, n, copy, 0);
+    vertex::copy_buoys(buoys, at, n, copy_buoys, 0);
     let end = 3 * n;
     let legs = tally::leg_count(n, flags[k] != 0);
-    cut_legs_of(&copy[..end], n, legs, p, work, counts, flags, m, k, at)
+    cut_legs_of(
+        &copy[..end],
+        &copy_buoys[..n],
+        legs,
+        x,
+        work,
+        buoys,
+        counts,
+        flags,
+        m,
+        k,
+        at,
+    )
 }
 
 // One point, at each of the m places that there are before it.
 fn cut_string(
     work: &mut [f64],
+    buoys: &mut [u32],
     counts: &mut [usize],
     flags: &mut [usize],
     m: usize,
-    p: SphericalPoint,
+    x: Vertex,
     copy: &mut [f64],
+    copy_buoys: &mut [u32],
 ) -> Cut
-    requires { ⌜ Stands m (now work) (now counts) (now flags) × (length (now copy) ≡ 3072) ⌝ }
-    ensures { λ r. ⌜ heldPieces r (now (work .exit)) (now (counts .exit)) (now (flags .exit)) ≡ cutString p (firstPieces m (now (work .entry)) (now (counts .entry)) (now (flags .entry))) ⌝ }
-    ensures { λ r. ⌜ Stands (cutCount r) (now (work .exit)) (now (counts .exit)) (now (flags .exit)) ⌝ }
+    requires { ⌜ Stands m (now work) (now buoys) (now counts) (now flags) × (length (now copy) ≡ 3072) × (length (now «copy_buoys») ≡ 1024) ⌝ }
+    ensures { λ r. ⌜ heldPieces r (now (work .exit)) (now (buoys .exit)) (now (counts .exit)) (now (flags .exit)) ≡ cutString placeOf builtNumbered x (firstPieces m (now (work .entry)) (now (buoys .entry)) (now (counts .entry)) (now (flags .entry))) ⌝ }
+    ensures { λ r. ⌜ Stands (cutCount r) (now (work .exit)) (now (buoys .exit)) (now (counts .exit)) (now (flags .exit)) ⌝ }
 {
     let mut more = m;
     let mut at = 0;
     let mut k = 0;
     while k < m {
-        let cut = cut_place(work, counts, flags, more, k, at, p, copy);
+        let cut = cut_place(work, buoys, counts, flags, more, k, at, x, copy, copy_buoys);
         let Cut::Pieces(count) = cut else {
             return cut;
         };
@@ -211,27 +276,32 @@ fn cut_string(
 // Each of the points in turn, from the m pieces that stand there on.
 pub(crate) fn cut_at_points(
     work: &mut [f64],
+    buoys: &mut [u32],
     counts: &mut [usize],
     flags: &mut [usize],
     m: usize,
     extra: &[f64],
-    number: usize,
+    extra_buoys: &[u32],
 ) -> Cut
-    requires { ⌜ Stands m (now work) (now counts) (now flags) × (length (now extra) ≡ 3 * number) ⌝ }
-    ensures { λ r. ⌜ heldPieces r (now (work .exit)) (now (counts .exit)) (now (flags .exit)) ≡ forEach cutString (points (now (extra .entry))) (firstPieces m (now (work .entry)) (now (counts .entry)) (now (flags .entry))) ⌝ }
-    ensures { λ r. ⌜ Stands (cutCount r) (now (work .exit)) (now (counts .exit)) (now (flags .exit)) ⌝ }
+    requires { ⌜ Stands m (now work) (now buoys) (now counts) (now flags) × (length (now extra) ≡ 3 * length (now «extra_buoys»)) ⌝ }
+    ensures { λ r. ⌜ heldPieces r (now (work .exit)) (now (buoys .exit)) (now (counts .exit)) (now (flags .exit)) ≡ forEach (cutString placeOf builtNumbered) (numbered (points (now (extra .entry))) (now («extra_buoys» .entry))) (firstPieces m (now (work .entry)) (now (buoys .entry)) (now (counts .entry)) (now (flags .entry))) ⌝ }
+    ensures { λ r. ⌜ Stands (cutCount r) (now (work .exit)) (now (buoys .exit)) (now (counts .exit)) (now (flags .exit)) ⌝ }
 {
     let mut copy = [0.0; 3072];
+    let mut copy_buoys = [0; 1024];
     let mut more = m;
     let mut i = 0;
-    while i < number {
+    while i < extra_buoys.len() {
+        let x = vertex::numbered_at(extra, extra_buoys, i);
         let cut = cut_string(
             work,
+            buoys,
             counts,
             flags,
             more,
-            vertex::vertex_at(extra, i),
+            x,
             &mut copy,
+            &mut copy_buoys,
         );
         let Cut::Pieces(count) = cut else {
             return cut;

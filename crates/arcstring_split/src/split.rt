@@ -9,7 +9,7 @@ ghost use Rattle.arcstring.specs.Splice.{splice};
 ghost use Rattle.arcstring_crossing.specs.Crossing.{legOf};
 ghost use Rattle.arcstring_split.specs.Pieces.{cutCount, Stands, flagsOf, handedOver};
 ghost use Rattle.arcstring_split.specs.SplitLeg.{splitLeg, splitAnswer, legFloats, pieceCount, ofPieces};
-ghost use Rattle.arcstring_split.specs.Split.{pieceFloats, pieceCounts, pieceFlags, splitString};
+ghost use Rattle.arcstring_split.specs.Split.{pieceFloats, pieceBuoys, pieceCounts, pieceFlags, splitString};
 use crate::cut_leg;
 use crate::cut_place;
 use arcstring::check;
@@ -64,18 +64,6 @@ pub fn split_arc_at_points(arc: [[f64; 3]; 2], extra: &[f64], out: &mut [f64]) -
     }
 }
 
-// The first m numbers of a local list copied out.
-fn copy_numbers(list: &[usize], m: usize, out: &mut [usize])
-    requires { ⌜ (m ≤ length (now list)) × (m ≤ length (now out)) ⌝ }
-    ensures { λ _. ⌜ now (out .exit) ≡ splice (now (out .entry)) 0 (take m (now (list .entry))) ⌝ }
-{
-    let mut i = 0;
-    while i < m {
-        out[i] = list[i];
-        i += 1;
-    }
-}
-
 // The first m flags of a local list copied out, each as 0 or 1.
 fn copy_flags(list: &[usize], m: usize, out: &mut [u8])
     requires { ⌜ (m ≤ length (now list)) × (m ≤ length (now out)) ⌝ }
@@ -94,21 +82,24 @@ fn flag_byte(flag: usize) -> u8
     if flag == 0 { 0 } else { 1 }
 }
 
-// The finished pieces copied out, or 7 where one of the three buffers is too short for them.
+// The finished pieces copied out, or 7 where one of the four buffers is too short for them.
 fn hand_over(
     work: &[f64],
+    buoys: &[u32],
     sizes: &[usize],
     closings: &[usize],
     cut: Cut,
     out: &mut [f64],
+    out_buoys: &mut [u32],
     counts: &mut [usize],
     flags: &mut [u8],
 ) -> Split
-    requires { ⌜ Stands (cutCount cut) (now work) (now sizes) (now closings) ⌝ }
-    ensures { λ r. ⌜ splitAnswer r ≡ mapAnswer pieceCount (handedOver cut (now (work .entry)) (now (sizes .entry)) (now (closings .entry)) (length (now (out .entry))) (length (now (counts .entry))) (length (now (flags .entry)))) ⌝ }
-    ensures { λ _. ⌜ now (out .exit) ≡ leaves (mapAnswer (ofPieces pieceFloats) (handedOver cut (now (work .entry)) (now (sizes .entry)) (now (closings .entry)) (length (now (out .entry))) (length (now (counts .entry))) (length (now (flags .entry))))) (now (out .entry)) ⌝ }
-    ensures { λ _. ⌜ now (counts .exit) ≡ leaves (mapAnswer (ofPieces pieceCounts) (handedOver cut (now (work .entry)) (now (sizes .entry)) (now (closings .entry)) (length (now (out .entry))) (length (now (counts .entry))) (length (now (flags .entry))))) (now (counts .entry)) ⌝ }
-    ensures { λ _. ⌜ now (flags .exit) ≡ leaves (mapAnswer (ofPieces pieceFlags) (handedOver cut (now (work .entry)) (now (sizes .entry)) (now (closings .entry)) (length (now (out .entry))) (length (now (counts .entry))) (length (now (flags .entry))))) (now (flags .entry)) ⌝ }
+    requires { ⌜ Stands (cutCount cut) (now work) (now buoys) (now sizes) (now closings) ⌝ }
+    ensures { λ r. ⌜ splitAnswer r ≡ mapAnswer pieceCount (handedOver cut (now (work .entry)) (now (buoys .entry)) (now (sizes .entry)) (now (closings .entry)) (length (now (out .entry))) (length (now («out_buoys» .entry))) (length (now (counts .entry))) (length (now (flags .entry)))) ⌝ }
+    ensures { λ _. ⌜ now (out .exit) ≡ leaves (mapAnswer (ofPieces pieceFloats) (handedOver cut (now (work .entry)) (now (buoys .entry)) (now (sizes .entry)) (now (closings .entry)) (length (now (out .entry))) (length (now («out_buoys» .entry))) (length (now (counts .entry))) (length (now (flags .entry))))) (now (out .entry)) ⌝ }
+    ensures { λ _. ⌜ now («out_buoys» .exit) ≡ leaves (mapAnswer (ofPieces pieceBuoys) (handedOver cut (now (work .entry)) (now (buoys .entry)) (now (sizes .entry)) (now (closings .entry)) (length (now (out .entry))) (length (now («out_buoys» .entry))) (length (now (counts .entry))) (length (now (flags .entry))))) (now («out_buoys» .entry)) ⌝ }
+    ensures { λ _. ⌜ now (counts .exit) ≡ leaves (mapAnswer (ofPieces pieceCounts) (handedOver cut (now (work .entry)) (now (buoys .entry)) (now (sizes .entry)) (now (closings .entry)) (length (now (out .entry))) (length (now («out_buoys» .entry))) (length (now (counts .entry))) (length (now (flags .entry))))) (now (counts .entry)) ⌝ }
+    ensures { λ _. ⌜ now (flags .exit) ≡ leaves (mapAnswer (ofPieces pieceFlags) (handedOver cut (now (work .entry)) (now (buoys .entry)) (now (sizes .entry)) (now (closings .entry)) (length (now (out .entry))) (length (now («out_buoys» .entry))) (length (now (counts .entry))) (length (now (flags .entry))))) (now (flags .entry)) ⌝ }
 {
     match cut {
         Cut::Refused(e) => Split::Refused(e),
@@ -117,57 +108,80 @@ fn hand_over(
                 return Split::Uncut;
             }
             let total = cut_place::sum_of(sizes, m);
-            if (out.len() < 3 * total) | (counts.len() < m) | (flags.len() < m) {
+            if (out.len() < 3 * total)
+                | (out_buoys.len() < total)
+                | (counts.len() < m)
+                | (flags.len() < m)
+            {
                 return Split::Refused(Refusal::NoRoom);
             }
             vertex::copy_run(work, 0, total, out, 0);
-            copy_numbers(sizes, m, counts);
+            vertex::copy_buoys(buoys, 0, total, out_buoys, 0);
+            vertex::copy_numbers(sizes, m, counts);
             copy_flags(closings, m, flags);
             Split::Pieces(m)
         }
     }
 }
 
-// The string cut at each of the points, as pieces one after another in `out`, with how many vertices each has in `counts`
-// and 1 for a closed piece, 0 for an open one, in `flags`. Every piece is built anew, so that it is normalised and may close;
-// its near list is its vertices. Uncut writes nothing. Refuses by 1, 3 and 4 of the vertices, then of the points, by 3 where
-// after a cut all pieces together have more than 1,024 vertices, and by 7 where one of the three buffers is too short.
+// The string cut at each of the points, as pieces one after another: vertices in `out` and their numbers in `out_buoys`, how many
+// vertices each piece has in `counts` and 1 for a closed piece, 0 for an open one, in `flags`. A point cut at brings its own number
+// into both pieces. Every piece is built anew, so that it is normalised and may close, when it drops its last vertex's number too;
+// its near list is its vertices. Uncut writes nothing. Refuses by 1, 10, 3 and 4 of the vertices, then of the points, by 3 where
+// after a cut all pieces together have more than 1,024 vertices, and by 7 where one of the four buffers is too short.
 pub fn split_arcstring_at_points(
     v: &[f64],
+    buoys: &[u32],
     closed: bool,
     extra: &[f64],
+    extra_buoys: &[u32],
     out: &mut [f64],
+    out_buoys: &mut [u32],
     counts: &mut [usize],
     flags: &mut [u8],
 ) -> Split
-    ensures { λ r. ⌜ splitAnswer r ≡ mapAnswer pieceCount (splitString (now (v .entry)) closed (now (extra .entry)) (length (now (out .entry))) (length (now (counts .entry))) (length (now (flags .entry)))) ⌝ }
-    ensures { λ _. ⌜ now (out .exit) ≡ leaves (mapAnswer (ofPieces pieceFloats) (splitString (now (v .entry)) closed (now (extra .entry)) (length (now (out .entry))) (length (now (counts .entry))) (length (now (flags .entry))))) (now (out .entry)) ⌝ }
-    ensures { λ _. ⌜ now (counts .exit) ≡ leaves (mapAnswer (ofPieces pieceCounts) (splitString (now (v .entry)) closed (now (extra .entry)) (length (now (out .entry))) (length (now (counts .entry))) (length (now (flags .entry))))) (now (counts .entry)) ⌝ }
-    ensures { λ _. ⌜ now (flags .exit) ≡ leaves (mapAnswer (ofPieces pieceFlags) (splitString (now (v .entry)) closed (now (extra .entry)) (length (now (out .entry))) (length (now (counts .entry))) (length (now (flags .entry))))) (now (flags .entry)) ⌝ }
+    ensures { λ r. ⌜ splitAnswer r ≡ mapAnswer pieceCount (splitString (now (v .entry)) (now (buoys .entry)) closed (now (extra .entry)) (now («extra_buoys» .entry)) (length (now (out .entry))) (length (now («out_buoys» .entry))) (length (now (counts .entry))) (length (now (flags .entry)))) ⌝ }
+    ensures { λ _. ⌜ now (out .exit) ≡ leaves (mapAnswer (ofPieces pieceFloats) (splitString (now (v .entry)) (now (buoys .entry)) closed (now (extra .entry)) (now («extra_buoys» .entry)) (length (now (out .entry))) (length (now («out_buoys» .entry))) (length (now (counts .entry))) (length (now (flags .entry))))) (now (out .entry)) ⌝ }
+    ensures { λ _. ⌜ now («out_buoys» .exit) ≡ leaves (mapAnswer (ofPieces pieceBuoys) (splitString (now (v .entry)) (now (buoys .entry)) closed (now (extra .entry)) (now («extra_buoys» .entry)) (length (now (out .entry))) (length (now («out_buoys» .entry))) (length (now (counts .entry))) (length (now (flags .entry))))) (now («out_buoys» .entry)) ⌝ }
+    ensures { λ _. ⌜ now (counts .exit) ≡ leaves (mapAnswer (ofPieces pieceCounts) (splitString (now (v .entry)) (now (buoys .entry)) closed (now (extra .entry)) (now («extra_buoys» .entry)) (length (now (out .entry))) (length (now («out_buoys» .entry))) (length (now (counts .entry))) (length (now (flags .entry))))) (now (counts .entry)) ⌝ }
+    ensures { λ _. ⌜ now (flags .exit) ≡ leaves (mapAnswer (ofPieces pieceFlags) (splitString (now (v .entry)) (now (buoys .entry)) closed (now (extra .entry)) (now («extra_buoys» .entry)) (length (now (out .entry))) (length (now («out_buoys» .entry))) (length (now (counts .entry))) (length (now (flags .entry))))) (now (flags .entry)) ⌝ }
 {
     let checked = check::first_of(
-        check::check_stored(v),
-        check::check_list(extra, Checked::Accepted),
+        check::check_string(v, buoys),
+        check::check_points(extra, extra_buoys),
     );
     if let Checked::Refused(e) = checked {
         return Split::Refused(e);
     }
     let n = v.len() / 3;
     let mut work = [0.0; 3072];
+    let mut numbers = [0; 1024];
     let mut sizes = [0; 1024];
     let mut closings = [0; 1024];
     vertex::copy_run(v, 0, n, &mut work, 0);
+    vertex::copy_buoys(buoys, 0, n, &mut numbers, 0);
     sizes[0] = n;
     if closed {
         closings[0] = 1;
     }
     let cut = cut_place::cut_at_points(
         &mut work,
+        &mut numbers,
         &mut sizes,
         &mut closings,
         1,
         extra,
-        extra.len() / 3,
+        extra_buoys,
     );
-    hand_over(&work, &sizes, &closings, cut, out, counts, flags)
+    hand_over(
+        &work,
+        &numbers,
+        &sizes,
+        &closings,
+        cut,
+        out,
+        out_buoys,
+        counts,
+        flags,
+    )
 }

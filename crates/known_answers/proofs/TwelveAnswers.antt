@@ -8,14 +8,15 @@ use Rattle.ieee754.specs.Size.{abs}
 use Rattle.sphericalpoint.specs.Sqrt.{sqrtOf}
 use Rattle.sphericalpoint.specs.Vector.{equalityTolerance, coplanarTolerance, xyzSub, xyzMul, xyzDiv, xyzNeg, xyzAbs, xyzSum, xyzDot, xyzCross, xyzLength, xyzEq, normalized}
 use Rattle.sphericalpoint.specs.Point.{betweenInPlane, xyzsCoplanar, normalizedUnlessShort}
-use Rattle.arcstring.specs.Check.{inRange, allInRange, listCheck, storedCheck, buildCheck, pointCheck, roomCheck, intoRoom}
+use Rattle.arcstring.specs.Check.{inRange, allInRange, listCheck, buoysCheck, stringCheck, buildingCheck, pointCheck, roomCheck, roomsCheck, intoRooms, lent}
 use Rattle.arcstring.specs.Point.{coplanarPoints}
-use Rattle.arcstring.specs.Build.{endsMeet, builtVertices, builtString, buildInto, build}
+use Rattle.arcstring.specs.Build.{endsMeet, builtVertices, builtString, builtNumbered, buildInto, build}
 use Rattle.arcstring.specs.Answer.{refused, answered}
 use Rattle.arcstring.specs.Points.{point}
 use Rattle.arcstring_crossing.specs.Crossing.{normal, meeting, sideFrom, sideTo, sideValues, grazes, isAbove, isBelow, signNegative, signPositive, someSide, everySide, atEnd, keptOrDropped, grazingOutcome, endOrClean, classAt, pairOf, legCheck, arcsCrossing}
 use Rattle.arcstring_simplify.specs.Simplify.{thirdPosition, unnecessary, unnecessaryFrom, unnecessaryPositions, removeAt, removeAll, isSimple, rounds, simplified, simplify}
-use Rattle.known_answers.specs.Twelve.{crossing, coplanar, building, simplifying, root, nought, unit, half, pointX, pointY, crossings, coplanars, buildings, simplifyings, roots, twelve, answers}
+use Rattle.known_answers.specs.Twelve.{crossing, coplanar, building, simplifying, root, nought, unit, half, pointX, pointY, buoyed}
+use Rattle.known_answers.specs.Twelve.{crossings, coplanars, buildings, simplifyings, roots, twelve, answers}
 
 known-crossings : crossings
     ≡ crossing (answered (record { class = 1; point = some (point unit nought nought); kept = true }))
@@ -30,12 +31,17 @@ known-coplanars : coplanars ≡ coplanar (answered true) ∷ coplanar (answered 
 unfolding coplanarPoints pointCheck inRange xyzsCoplanar betweenInPlane equalityTolerance coplanarTolerance xyzSub xyzMul xyzAbs xyzSum xyzDot xyzCross xyzLength xyzEq sqrtOf abs add sub mul div neg lt eq le round
 known-coplanars = refl
 
-known-buildings : buildings ≡ building (answered (record { vertices = pointX ∷ []; near = pointX ∷ []; closed = true })) ∷ building (refused 2) ∷ []
-unfolding build buildInto builtString builtVertices endsMeet buildCheck listCheck allInRange inRange roomCheck normalizedUnlessShort normalized equalityTolerance xyzSub xyzMul xyzDiv xyzAbs xyzSum xyzLength xyzEq sqrtOf abs add sub mul div lt eq le round
+known-buildings : buildings ≡ building (answered (record { vertices = buoyed pointX 7 ∷ []; near = pointX ∷ []; closed = true })) ∷ building (refused 2) ∷ []
+unfolding build buildInto builtNumbered builtString builtVertices endsMeet buildingCheck buoysCheck
+    listCheck allInRange inRange roomsCheck roomCheck normalizedUnlessShort normalized equalityTolerance
+    xyzSub xyzMul xyzDiv xyzAbs xyzSum xyzLength xyzEq sqrtOf abs add sub mul div lt eq le round
 known-buildings = refl
 
-known-simplifyings : simplifyings ≡ simplifying (answered (pointX ∷ pointY ∷ [])) ∷ simplifying (refused 5) ∷ []
-unfolding simplify simplified rounds isSimple removeAll removeAt unnecessaryPositions unnecessaryFrom unnecessary thirdPosition intoRoom storedCheck listCheck allInRange inRange roomCheck builtString builtVertices endsMeet normalizedUnlessShort normalized xyzsCoplanar betweenInPlane equalityTolerance coplanarTolerance xyzSub xyzMul xyzDiv xyzAbs xyzSum xyzDot xyzCross xyzLength xyzEq sqrtOf abs add sub mul div neg lt eq le round
+known-simplifyings : simplifyings ≡ simplifying (answered (buoyed pointX 7 ∷ buoyed pointY 8 ∷ [])) ∷ simplifying (refused 5) ∷ []
+unfolding simplify simplified rounds isSimple removeAll removeAt unnecessaryPositions unnecessaryFrom unnecessary thirdPosition
+    lent intoRooms stringCheck buoysCheck listCheck allInRange inRange roomsCheck roomCheck builtString builtVertices endsMeet
+    normalizedUnlessShort normalized xyzsCoplanar betweenInPlane equalityTolerance coplanarTolerance
+    xyzSub xyzMul xyzDiv xyzAbs xyzSum xyzDot xyzCross xyzLength xyzEq sqrtOf abs add sub mul div neg lt eq le round
 known-simplifyings = refl
 
 known-roots : roots ≡ root nought ∷ root half ∷ root unit ∷ []

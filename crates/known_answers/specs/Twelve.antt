@@ -1,13 +1,16 @@
--- Document 01's twelve known answers: what the definitions give, and what the document says, as two lists. X, Y and Z are the axis unit points, M is (0.5, 0.5, 0). Definitions only.
+-- Document 01's twelve known answers: what the definitions give, and what the document says, as two lists. X, Y and Z are the axis unit points, M is
+-- (0.5, 0.5, 0). Strings carry the numbers 7, 8, 9. Definitions only.
 use mathlib.Core.Bool.{Bool, true, false}
 use mathlib.Core.List.{List, [], _∷_, _++_}
 use mathlib.Core.Option.{none, some}
+use Prim.Native.Nat.{ℕ}
 use lib.IntN.{pos, negsuc}
 use lib.Ieee.{Float, fin}
 use Rattle.sphericalpoint.specs.declared.SphericalPoint.{SphericalPoint}
 use Rattle.sphericalpoint.specs.Sqrt.{sqrtOf}
 use Rattle.arcstring.specs.Answer.{Answer, refused, answered}
-use Rattle.arcstring.specs.Points.{ArcString, point, flat}
+use Rattle.arcstring.specs.declared.vertex.Vertex.{Vertex}
+use Rattle.arcstring.specs.Points.{StringOf, ArcString, point, flat}
 use Rattle.arcstring.specs.Point.{coplanarPoints}
 use Rattle.arcstring.specs.Build.{builtString, build}
 use Rattle.arcstring_crossing.specs.Crossing.{Leg, leg, Judged, arcsCrossing}
@@ -16,8 +19,8 @@ use Rattle.arcstring_simplify.specs.Simplify.{simplify}
 pub data Known : Type 0 where
   crossing : Answer Judged → Known
   coplanar : Answer Bool → Known
-  building : Answer ArcString → Known
-  simplifying : Answer (List SphericalPoint) → Known
+  building : Answer (StringOf Vertex) → Known
+  simplifying : Answer (List Vertex) → Known
   root : Float → Known
 
 -- ---- numbers, points, legs
@@ -63,7 +66,11 @@ upright low = leg (point unit nought low) (point unit nought half)
 abbrev builtXYM : ArcString
 builtXYM = builtString (pointX ∷ pointY ∷ pointM ∷ pointX ∷ [])
 
--- ---- the twelve; 9 has two, and 12 three. A build has room for three floats, a simplified string for nine.
+-- a point with the number of its buoy
+abbrev pub buoyed : SphericalPoint → ℕ → Vertex
+buoyed p n = record { place = p; buoy = n }
+
+-- ---- the twelve; 9 has two, and 12 three. A build has room for one vertex and its number, a simplified string for three.
 
 -- 1 to 4
 abbrev pub crossings : List Known
@@ -85,13 +92,13 @@ coplanars =
 
 -- 9
 abbrev pub buildings : List Known
-buildings = building (build (flat (pointX ∷ pointX ∷ [])) 3) ∷ building (build (flat (pointX ∷ [])) 3) ∷ []
+buildings = building (build (flat (pointX ∷ pointX ∷ [])) (7 ∷ 8 ∷ []) 3 1) ∷ building (build (flat (pointX ∷ [])) (7 ∷ []) 3 1) ∷ []
 
 -- 10 and 11
 abbrev pub simplifyings : List Known
 simplifyings =
-    simplifying (simplify (flat (pointX ∷ pointY ∷ pointZ ∷ [])) false 9)
-    ∷ simplifying (simplify (flat (builtXYM .vertices)) (builtXYM .closed) 9)
+    simplifying (simplify (flat (pointX ∷ pointY ∷ pointZ ∷ [])) (7 ∷ 8 ∷ 9 ∷ []) false 9 3)
+    ∷ simplifying (simplify (flat (builtXYM .vertices)) (7 ∷ 8 ∷ 9 ∷ []) (builtXYM .closed) 9 3)
     ∷ []
 
 -- 12
@@ -112,9 +119,9 @@ answers =
     ∷ coplanar (answered false)
     ∷ coplanar (answered false)
     ∷ coplanar (answered false)
-    ∷ building (answered (record { vertices = pointX ∷ []; near = pointX ∷ []; closed = true }))
+    ∷ building (answered (record { vertices = buoyed pointX 7 ∷ []; near = pointX ∷ []; closed = true }))
     ∷ building (refused 2)
-    ∷ simplifying (answered (pointX ∷ pointY ∷ []))
+    ∷ simplifying (answered (buoyed pointX 7 ∷ buoyed pointY 8 ∷ []))
     ∷ simplifying (refused 5)
     ∷ root nought
     ∷ root half

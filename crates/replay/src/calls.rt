@@ -1,11 +1,14 @@
 // Which function runs a call, and what the calls share: what stands in a place before a call, and a list's floats one by one.
 use crate::crossings;
 use crate::read::Request;
+use crate::strings;
 use crate::verdicts;
 use crate::vertices;
 
 // What every place holds before a call, so that what is not written shows.
 pub(crate) const FLOAT: f64 = -7.25;
+
+pub(crate) const BUOY: u32 = 0xA5A5_5A5A;
 
 pub(crate) const BYTE: u8 = 0xA5;
 
@@ -40,7 +43,15 @@ pub(crate) fn six(list: &[f64]) -> [f64; 6] {
 //     13 crosses_self  14 same_side      15 turn_orientations    16 midpoints         17 along         18 simplify
 //     19 insert_vertices                 20 split_leg            21 split             22 eq            23 equals
 //     24 crosses       25 overlaps       26 within               27 contains
-pub(crate) fn answer(q: Request, a: &[f64], a_near: &[f64], b: &[f64], b_near: &[f64]) {
+pub(crate) fn answer(
+    q: Request,
+    a: &[f64],
+    a_near: &[f64],
+    b: &[f64],
+    b_near: &[f64],
+    a_buoys: &[u32],
+    b_buoys: &[u32],
+) {
     let call = q.call;
     match call {
         2 => vertices::point(a),
@@ -48,8 +59,9 @@ pub(crate) fn answer(q: Request, a: &[f64], a_near: &[f64], b: &[f64], b_near: &
         8 => crossings::pair(a, b),
         9 | 10 | 12 => crossings::listing(q, a, b),
         11 => crossings::count(q, a, b),
-        3..=6 | 15 | 16 | 18 | 19 | 20 => vertices::written(q, a, b),
-        21 => vertices::split(q, a, b),
+        15 | 16 | 20 => vertices::written(q, a, b),
+        3..=6 | 18 | 19 => strings::written(q, a, a_buoys, b, b_buoys),
+        21 => strings::split(q, a, a_buoys, b, b_buoys),
         0 | 1 | 13 | 14 | 17 => verdicts::on_string(q, a, b, b_near),
         _ => verdicts::relation(q, a, a_near, b, b_near),
     }

@@ -4,30 +4,67 @@
 // input, and at a request that is cut short, has a word that is no number, asks for an unknown call or passes a bound.
 //
 // A word is 16 upper-case hexadecimal digits. A request is a label of 48 bytes, then words, each with one byte after it (a blank, or the
-// line feed): the call's number; the two strings' flags; two positions; the lengths of the buffers of floats, of bytes and of numbers;
-// and four lists (the first string's vertices and near list, the second's), each as its length, how many floats are given, and these:
-// the list repeats them to its length. Points and legs by themselves stand in the first list, extra points in the third.
+// line feed): the call's number; the two strings' flags; two positions; the lengths of the buffers of floats, of bytes, of numbers and of
+// buoys; four lists of floats (the first string's vertices and near list, the second's) and two of buoys (the first string's, and those
+// of the extra points), each as its length, how many elements are given, and these: the list repeats them to its length. Points and legs
+// by themselves stand in the first list, extra points in the third.
 //
-// An answer is the label, then words with a blank before each: the number returned, every float, every byte and every number that was
-// lent, single places before a buffer.
+// An answer is the label, then words with a blank before each: the number returned, every float, every buoy, every byte and every number
+// that was lent, single places before a buffer.
 //
 //     read        a word, a list, the words before the lists
-//     print       words, floats, bytes and numbers
+//     print       words, floats, buoys, bytes and numbers
 //     calls       which function runs which call; these functions are in:
 //     verdicts    the calls that answer yes or no
-//     vertices    a point, the calls that write vertices, a run of them
+//     strings     the calls that write a string, or its pieces, with buoys
+//     vertices    a point, the calls that write other points or measures, a run of vertices
 //     crossings   a pair of legs, listings of crossings and counts
 mod calls;
 mod crossings;
 mod print;
 mod read;
+mod strings;
 mod verdicts;
 mod vertices;
 
 use read::Asked;
 use read::Request;
 
-// The four lists of a request read and its answer printed; false where the lists are not there whole.
+// The lists of buoys of a request read, and its answer printed; false where the lists are not there whole.
+fn answer_buoys(
+    label: &[u8; 48],
+    q: Request,
+    a: &[f64],
+    a_near: &[f64],
+    b: &[f64],
+    b_near: &[f64],
+) -> bool {
+    let mut a_buoys = [0u32; 3200];
+    let mut b_buoys = [0u32; 3200];
+    let first = read::read_buoy_list(&mut a_buoys);
+    if !first.whole {
+        return false;
+    }
+    let second = read::read_buoy_list(&mut b_buoys);
+    if !second.whole {
+        return false;
+    }
+    let a_end = first.length;
+    let b_end = second.length;
+    io::write_all(1, label);
+    calls::answer(
+        q,
+        a,
+        a_near,
+        b,
+        b_near,
+        &a_buoys[..a_end],
+        &b_buoys[..b_end],
+    );
+    io::write_all(1, b"\n")
+}
+
+// The four lists of floats of a request read, and what follows them; false where the lists are not there whole.
 fn answer_lists(label: &[u8; 48], q: Request) -> bool {
     let mut a = [0.0; 3200];
     let mut a_near = [0.0; 3200];
@@ -53,15 +90,14 @@ fn answer_lists(label: &[u8; 48], q: Request) -> bool {
     let a_near_end = first_near.length;
     let b_end = second.length;
     let b_near_end = second_near.length;
-    io::write_all(1, label);
-    calls::answer(
+    answer_buoys(
+        label,
         q,
         &a[..a_end],
         &a_near[..a_near_end],
         &b[..b_end],
         &b_near[..b_near_end],
-    );
-    io::write_all(1, b"\n")
+    )
 }
 
 // One request answered; false where there is none, or not a whole one.

@@ -33,6 +33,10 @@ pub(crate) fn print_returned(n: u32) {
     print_word(n as u64);
 }
 
+fn print_buoy(n: u32) {
+    print_word(n as u64);
+}
+
 pub(crate) fn print_byte(byte: u8) {
     print_word(byte as u64);
 }
@@ -62,6 +66,14 @@ pub(crate) fn print_point(point: &[f64; 3]) {
     print_float(point[0]);
     print_float(point[1]);
     print_float(point[2]);
+}
+
+pub(crate) fn print_buoys(list: &[u32]) {
+    let mut i = 0;
+    while i < list.len() {
+        print_buoy(list[i]);
+        i += 1;
+    }
 }
 
 pub(crate) fn print_bytes(list: &[u8]) {

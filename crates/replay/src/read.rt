@@ -1,4 +1,4 @@
-// What is read of standard input: words, lists of floats, and the words of a request that stand before its lists.
+// What is read of standard input: words, lists of floats and of buoys, and the words of a request that stand before its lists.
 ghost use mathlib.Core.Path.{_≡_};
 ghost use Prim.Native.Nat.{_≤_};
 ghost use lib.ListN.{length, take};
@@ -17,7 +17,7 @@ enum Small {
     None,
 }
 
-// The words before the lists: the call, two flags, two positions, and the rooms of the floats, bytes and numbers lent.
+// The words before the lists: the call, two flags, two positions, and the rooms of the floats, bytes, numbers and buoys lent.
 pub(crate) struct Request {
     pub(crate) call: u8,
     pub(crate) first_flag: u8,
@@ -27,6 +27,7 @@ pub(crate) struct Request {
     pub(crate) floats: u8,
     pub(crate) bytes: u8,
     pub(crate) numbers: u8,
+    pub(crate) buoys: u8,
 }
 
 // A request, unless its words are not there whole or its call is unknown.
@@ -35,7 +36,14 @@ pub(crate) enum Asked {
     None,
 }
 
-// Whether a list was there whole, and how many floats it has.
+// Whether the two words before a list's elements fit it, how many elements it has, and how many of them are given.
+struct Shape {
+    whole: bool,
+    length: usize,
+    period: usize,
+}
+
+// Whether a list was there whole, and how many elements it has.
 pub(crate) struct Listed {
     pub(crate) whole: bool,
     pub(crate) length: usize,
@@ -108,6 +116,9 @@ pub(crate) fn read_request() -> Asked {
     let Small::Value(numbers) = read_small() else {
         return Asked::None;
     };
+    let Small::Value(buoys) = read_small() else {
+        return Asked::None;
+    };
     if call > 27 {
         return Asked::None;
     }
@@ -120,6 +131,7 @@ pub(crate) fn read_request() -> Asked {
         floats,
         bytes,
         numbers,
+        buoys,
     })
 }
 
@@ -158,13 +170,14 @@ fn repeat(list: &mut [f64], period: usize) {
     }
 }
 
-// A list read: its length, its period, and as many floats as the period, which the rest of it repeats.
-pub(crate) fn read_list(list: &mut [f64]) -> Listed
-    ensures { λ r. ⌜ (r .length ≤ length (now (list .exit))) × (r .length ≡ length (take (r .length) (now (list .exit)))) ⌝ }
+// The two words before the elements of a list that has at most so many: its length, and its period, 0 for the empty list alone.
+fn read_shape(most: usize) -> Shape
+    ensures { λ r. ⌜ r .length ≤ most ⌝ }
 {
-    let none = Listed {
+    let none = Shape {
         whole: false,
         length: 0,
+        period: 0,
     };
     let Word::Value(length) = read_word() else {
         return none;
@@ -174,14 +187,28 @@ pub(crate) fn read_list(list: &mut [f64]) -> Listed
     };
     let length = length as usize;
     let period = period as usize;
-    if length > list.len() {
+    if length > most {
         return none;
     }
-    if period == 0 {
-        return Listed {
-            whole: length == 0,
-            length: 0,
-        };
+    Shape {
+        whole: period > 0 || length == 0,
+        length,
+        period,
+    }
+}
+
+// A list read: its length, its period, and as many floats as the period, which the rest of it repeats.
+pub(crate) fn read_list(list: &mut [f64]) -> Listed
+    ensures { λ r. ⌜ (r .length ≤ length (now (list .exit))) × (r .length ≡ length (take (r .length) (now (list .exit)))) ⌝ }
+{
+    let none = Listed {
+        whole: false,
+        length: 0,
+    };
+    let shape = read_shape(list.len());
+    let period = shape.period;
+    if !shape.whole {
+        return none;
     }
     if !read_floats(list, period) {
         return none;
@@ -189,6 +216,58 @@ pub(crate) fn read_list(list: &mut [f64]) -> Listed
     repeat(list, period);
     Listed {
         whole: true,
-        length,
+        length: shape.length,
+    }
+}
+
+// The first buoys of a list read; false where the list has not as many, or the input, or a number is over 32 bits.
+fn read_buoys(list: &mut [u32], count: usize) -> bool {
+    if count > list.len() {
+        return false;
+    }
+    let mut i = 0;
+    while i < count {
+        let word = read_word();
+        let Word::Value(n) = word else {
+            return false;
+        };
+        if n > 0xFFFF_FFFF {
+            return false;
+        }
+        list[i] = n as u32;
+        i += 1;
+    }
+    true
+}
+
+// The first buoys of a list over and over, to its end.
+fn repeat_buoys(list: &mut [u32], period: usize) {
+    let mut i = period;
+    while i < list.len() {
+        list[i] = list[i - period];
+        i += 1;
+    }
+}
+
+// A list of buoys read, as a list of floats is.
+pub(crate) fn read_buoy_list(list: &mut [u32]) -> Listed
+    ensures { λ r. ⌜ (r .length ≤ length (now (list .exit))) × (r .length ≡ length (take (r .length) (now (list .exit)))) ⌝ }
+{
+    let none = Listed {
+        whole: false,
+        length: 0,
+    };
+    let shape = read_shape(list.len());
+    let period = shape.period;
+    if !shape.whole {
+        return none;
+    }
+    if !read_buoys(list, period) {
+        return none;
+    }
+    repeat_buoys(list, period);
+    Listed {
+        whole: true,
+        length: shape.length,
     }
 }

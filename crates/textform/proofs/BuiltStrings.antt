@@ -1,28 +1,32 @@
--- A built string as it stands in a local list of 3,072 floats after `build`: there is always room, so that it is refused by its points alone, and what stands
+-- A string built without buoys, as it stands in a local list of 3,072 floats: there is always room, so that it is refused by its points alone, and what stands
 -- there is the string of the definitions. The counting call does not refuse it, and answers its counts. Assumes nothing.
 use mathlib.Core.Path.{_≡_, refl, sym, ap, _∙_}
 use mathlib.Core.Bool.{Bool}
 use mathlib.Core.List.{List, _++_}
-use Prim.Native.Nat.{ℕ, zero, suc, _*_, _≤_}
+use Prim.Native.Nat.{ℕ, zero, suc, _*_, _/_, _≤_}
 use native.Mathlib.Omega.{arith}
-use lib.ListN.{length, take, drop, length-take}
+use lib.ListN.{length, take, drop, length-take, length-map}
 use lib.Seq.{take-at}
 use lib.Ieee.{Float}
+use Rattle.sphericalpoint.specs.declared.SphericalPoint.{SphericalPoint}
 use Rattle.arcstring.specs.declared.check.Refusal.{Refusal}
 use Rattle.arcstring.specs.declared.build.Built.{Built}
 use Rattle.arcstring.specs.declared.build.Built.the-variants as B
-use Rattle.arcstring.specs.Answer.{Answer, refused, answered, unlessRefused, leaves, refusalNumber}
-use Rattle.arcstring.specs.Points.{ArcString, points, flat}
+use Rattle.arcstring.specs.declared.vertex.Vertex.{Vertex}
+use Rattle.arcstring.specs.Answer.{Answer, refused, answered, unlessRefused, mapAnswer, leaves, refusalNumber}
+use Rattle.arcstring.specs.Points.{StringOf, ArcString, placeOf, unnumbered, points, flat}
 use Rattle.arcstring.specs.Check.{storedCheck, buildCheck, roomCheck}
-use Rattle.arcstring.specs.Build.{builtString, buildInto, build, builtAnswer, builtResult, builtFloats}
+use Rattle.arcstring.specs.Build.{builtString, build, builtAnswer, builtResult, builtFloats}
 use Rattle.arcstring.specs.BuildLaws.{AllF64}
 use Rattle.arcstring.proofs.Answers.{refuse, pass}
 use Rattle.arcstring.proofs.Rooms.{room-enough}
 use Rattle.arcstring.proofs.Flat.{points-flat, length-flat}
 use Rattle.arcstring.proofs.Builds.{built-count}
 use Rattle.arcstring.proofs.BuiltAccepted.{built-stored}
+use Rattle.arcstring.proofs.BuildsWithout.{build-without, build-alone}
 use Rattle.arcstring_crossing.specs.Listing.{legs, pairsBetween, countsOf, visited, counted}
 use Rattle.textform.specs.Count.{countsBetween, countBuilt}
+use Rattle.textform.specs.Kept.{plainBuild, plainFloats}
 
 -- ---- an answer of `build`, by what was answered: m the check's number
 
@@ -50,7 +54,7 @@ module _ (v : List Float) where
   abbrev string : ArcString
   string = builtString (points v)
 
-  -- there is room in 3,072 floats
+  -- as many numbers, and room in 3,072 floats and 1,024 numbers: the string is refused by its points alone
   roomy : (m : ℕ) → buildCheck v ≡ m
       → unlessRefused m (unlessRefused (roomCheck (3 * length (string .vertices)) 3072) (answered string)) ≡ unlessRefused m (answered string)
   roomy zero e =
@@ -58,20 +62,43 @@ module _ (v : List Float) where
       pass (roomCheck (3 * length (string .vertices)) 3072) (answered string) (room-enough (3 * length (string .vertices)) 3072 (omega arith))
   roomy (suc m) e = refl
 
-  whole : build v 3072 ≡ unlessRefused (buildCheck v) (answered string)
-  unfolding build buildInto
-  whole = roomy (buildCheck v) refl
+  module _ (none : List ℕ) (room buoyRoom : ℕ) (same : length none ≡ length v / 3) (enough : room ≡ 3072) (as-well : buoyRoom ≡ 1024) where
+    plain : mapAnswer unnumbered (build v none room buoyRoom) ≡ plainBuild v
+    unfolding plainBuild
+    plain =
+        build-without v none room buoyRoom ∙ build-alone SphericalPoint v none room buoyRoom string same (omega arith)
+        ∙ ap (λ (n : ℕ). unlessRefused (buildCheck v) (unlessRefused (roomCheck (3 * length (string .vertices)) n) (answered string))) enough
+        ∙ roomy (buildCheck v) refl
 
-  module _ (r : Built) (old out : List Float) (answer : builtAnswer r ≡ builtResult (build v 3072)) (left : out ≡ leaves (builtFloats (build v 3072)) old) where
+    same-result : (a : Answer (StringOf Vertex)) → builtResult a ≡ builtResult (mapAnswer unnumbered a)
+    same-result (refused n) = refl
+    same-result (answered s) = ap (λ (n : ℕ). answered (n, s .closed)) (sym (length-map (s .vertices) placeOf))
+
+    same-floats : (a : Answer (StringOf Vertex)) → builtFloats a ≡ plainFloats (mapAnswer unnumbered a)
+    same-floats (refused n) = refl
+    same-floats (answered s) = refl
+
+    -- what is answered and left is what points alone give
+    pub plain-built : (r : Answer (ℕ × Bool)) (old out : List Float) → r ≡ builtResult (build v none room buoyRoom)
+        → out ≡ leaves (builtFloats (build v none room buoyRoom)) old
+        → (r ≡ builtResult (plainBuild v)) × (out ≡ leaves (plainFloats (plainBuild v)) old)
+    plain-built r old out answer left = (
+      answer ∙ same-result (build v none room buoyRoom) ∙ ap builtResult plain,
+      left ∙ ap (λ (a : Answer (List Float)). leaves a old) (same-floats (build v none room buoyRoom) ∙ ap plainFloats plain),
+    )
+
+  module _ (r : Built) (old out : List Float) (answer : builtAnswer r ≡ builtResult (plainBuild v)) (left : out ≡ leaves (plainFloats (plainBuild v)) old) where
     pub build-refused : (e : Refusal) → r ≡ B.Refused e → buildCheck v ≡ refusalNumber e
-    build-refused e told = told-refused (refusalNumber e) (buildCheck v) string (sym (ap builtAnswer told) ∙ answer ∙ ap builtResult whole)
+    unfolding plainBuild
+    build-refused e told = told-refused (refusalNumber e) (buildCheck v) string (sym (ap builtAnswer told) ∙ answer)
 
     pub build-stands : (n : ℕ) (closed : Bool) → r ≡ B.String n closed → BuiltHere v n closed out
+    unfolding plainBuild
     build-stands n closed told =
-        let t = told-built (buildCheck v) string n closed (sym (ap builtAnswer told) ∙ answer ∙ ap builtResult whole) in
+        let t = told-built (buildCheck v) string n closed (sym (ap builtAnswer told) ∙ answer) in
         let few = built-count v (t .0) in
         let written : out ≡ flat (string .vertices) ++ drop (length (flat (string .vertices))) old =
-        left ∙ ap (λ (x : Answer ArcString). leaves (builtFloats x) old) (whole ∙ pass (buildCheck v) (answered string) (t .0)) in
+        left ∙ ap (λ (x : Answer ArcString). leaves (plainFloats x) old) (pass (buildCheck v) (answered string) (t .0)) in
         let l : length (flat (string .vertices)) ≡ 3 * n = omega (arith, length-flat (string .vertices)) in
         let here = ap (take (3 * n)) written ∙ take-at (flat (string .vertices)) (drop (length (flat (string .vertices))) old) (3 * n) l in
         record {

@@ -7,7 +7,10 @@ use lib.ListN.{length, take}
 use lib.Dec.{ltb}
 use lib.IntN.{pos}
 use lib.Ieee.{Float, nan, inf, fin}
-use Rattle.arcstring.specs.Answer.{pick}
+use Rattle.arcstring.specs.Answer.{Answer, answered, unlessRefused, mapAnswer, pick}
+use Rattle.arcstring.specs.Points.{ArcString, points, flat}
+use Rattle.arcstring.specs.Check.{buildCheck}
+use Rattle.arcstring.specs.Build.{builtString}
 use Rattle.textform.specs.declared.read.Digit.{Digit}
 use Rattle.textform.specs.declared.read.Digit.the-variants as D
 use Rattle.textform.specs.declared.read.Reader.{Reader}
@@ -44,3 +47,10 @@ pub record Sound (r : Reader) : Type 0 where
 
 unfoldable pub keptReading : List ℕ → State
 keptReading bytes = fedWith keep start bytes
+
+-- what building answers for points without buoys, where there is room for every string
+unfoldable pub plainBuild : List Float → Answer ArcString
+plainBuild v = unlessRefused (buildCheck v) (answered (builtString (points v)))
+
+abbrev pub plainFloats : Answer ArcString → Answer (List Float)
+plainFloats a = mapAnswer (λ (s : ArcString). flat (s .vertices)) a

@@ -2,8 +2,10 @@
 ghost use mathlib.Core.Path.{_≡_};
 ghost use Prim.Native.Nat.{_≤_};
 ghost use lib.ListN.{length, take};
+ghost use Rattle.arcstring.specs.Answer.{leaves};
+ghost use Rattle.arcstring.specs.Build.{builtAnswer, builtResult};
 ghost use Rattle.arcstring_crossing.specs.Listing.{countedAnswer};
-ghost use Rattle.textform.specs.Kept.{heldState, Sound};
+ghost use Rattle.textform.specs.Kept.{heldState, Sound, plainBuild, plainFloats};
 ghost use Rattle.textform.specs.Print.{printed};
 ghost use Rattle.textform.specs.Count.{countBuilt, countState, outcomeAnswer, output};
 use crate::print;
@@ -32,17 +34,30 @@ fn outcome_of(counted: Counted) -> Outcome
     }
 }
 
+// The string that points make, without buoys: every number is 0, and those of the vertices are not looked at.
+fn build_plain(v: &[f64], out: &mut [f64]) -> Built
+    requires { ⌜ (length (now v) ≤ 3075) × (length (now out) ≡ 3072) ⌝ }
+    ensures { λ r. ⌜ builtAnswer r ≡ builtResult (plainBuild (now (v .entry))) ⌝ }
+    ensures { λ _. ⌜ now (out .exit) ≡ leaves (plainFloats (plainBuild (now (v .entry)))) (now (out .entry)) ⌝ }
+{
+    let none = [0; 1025];
+    let mut numbers = [0; 1024];
+    let n = v.len() / 3;
+    build::build(v, &none[..n], out, &mut numbers)
+}
+
 // Two lists of points built, the first first, and the pairs of their legs counted. What is built is never refused there.
 fn count_built(a: &[f64], b: &[f64]) -> Outcome
+    requires { ⌜ (length (now a) ≤ 3075) × (length (now b) ≤ 3075) ⌝ }
     ensures { λ r. ⌜ outcomeAnswer r ≡ countBuilt (now (a .entry)) (now (b .entry)) ⌝ }
 {
     let mut first = [0.0; 3072];
     let mut second = [0.0; 3072];
-    let built = build::build(a, &mut first);
+    let built = build_plain(a, &mut first);
     match built {
         Built::Refused(e) => Outcome::Refused(check::number(e)),
         Built::String(n, closed) => {
-            let other = build::build(b, &mut second);
+            let other = build_plain(b, &mut second);
             match other {
                 Built::Refused(e) => Outcome::Refused(check::number(e)),
                 Built::String(m, other_closed) => {

@@ -24,22 +24,28 @@ enum-known-r-2 c = search needs
 same-length : tie.Need-same-length
 same-length c = search needs
 
-returns : tie.Need-returns
-returns c =
-    let d = c .before .before .before .before .before .before in
-    let w = rw (d .before .before .is-closed .ensures) at (d .build-flagged .ensures) in
-    let h = sym (ap builtAnswer (c .before .before .r .given .1)) ∙ w .0 in
-    (built-number (buildFlagged _ _ _) h (c .number .ensures), (w .1, built-count (buildFlagged _ _ _) h _ refl))
-
 same-length-2 : tie.Need-same-length-2
 same-length-2 c = search needs
 
+returns : tie.Need-returns
+returns c =
+    let d = c .before .before .before .before .before .before .before .before in
+    let w = rw (d .before .before .before .is-closed .ensures) at (d .build-flagged .ensures) in
+    let h = sym (ap builtAnswer (c .before .before .r .given .1)) ∙ w .0 in
+    (built-number (buildFlagged _ _ _ _ _) h (c .number .ensures), (w .1 .0, (w .1 .1, built-count (buildFlagged _ _ _ _ _) h _ refl)))
+
+same-length-3 : tie.Need-same-length-3
+same-length-3 c = search needs
+
+same-length-4 : tie.Need-same-length-4
+same-length-4 c = search needs
+
 returns-2 : tie.Need-returns-2
 returns-2 c =
-    let d = c .before .before .before .before .before in
-    let w = rw (d .before .before .is-closed .ensures) at (d .build-flagged .ensures) in
+    let d = c .before .before .before .before .before .before .before in
+    let w = rw (d .before .before .before .is-closed .ensures) at (d .build-flagged .ensures) in
     let h = sym (ap builtAnswer (c .before .r2 .given .1)) ∙ w .0 in
-    (built-number (buildFlagged _ _ _) h refl, (w .1, built-count (buildFlagged _ _ _) h _ refl))
+    (built-number (buildFlagged _ _ _ _ _) h refl, (w .1 .0, (w .1 .1, built-count (buildFlagged _ _ _ _ _) h _ refl)))
 
 pub arcstring-build-flagged-spec : {M : Type 1} → statement M
 arcstring-build-flagged-spec =
@@ -51,6 +57,8 @@ arcstring-build-flagged-spec =
     number-requires
     enum-known-r-2
     same-length
-    returns
     same-length-2
+    returns
+    same-length-3
+    same-length-4
     returns-2)

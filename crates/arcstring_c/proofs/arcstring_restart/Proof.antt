@@ -17,12 +17,17 @@ written-requires c κs = search needs
 same-length : tie.Need-same-length
 same-length c = search needs
 
+same-length-2 : tie.Need-same-length-2
+same-length-2 c = search needs
+
 returns : tie.Need-returns
-returns c = let d = c .before .before .before .before in
-    let w = rw (d .before .before .is-closed .ensures) at (d .restart .ensures) in
-    (written-number (restart _ _ _ _) (w .0) (c .written .ensures .0), (w .1, written-count (restart _ _ _ _) (w .0) _ (c .written .ensures .1)))
+returns c = let d = c .before .before .before .before .before .before in
+    let w = rw (d .before .before .before .is-closed .ensures) at (d .restart .ensures) in (
+      written-number (restart _ _ _ _ _ _) (w .0) (c .written .ensures .0),
+      (w .1 .0, (w .1 .1, written-count (restart _ _ _ _ _ _) (w .0) _ (c .written .ensures .1))),
+    )
 
 pub arcstring-restart-spec : {M : Type 1} → statement M
 arcstring-restart-spec =
     tie.close
-    (tie.spec is-closed-requires restart-requires written-requires same-length returns)
+    (tie.spec is-closed-requires restart-requires written-requires same-length same-length-2 returns)

@@ -14,11 +14,16 @@ written-requires c κs = search needs
 same-length : tie.Need-same-length
 same-length c = search needs
 
+same-length-2 : tie.Need-same-length-2
+same-length-2 c = search needs
+
 returns : tie.Need-returns
-returns c = let w = c .before .before .before .before .walk-back .ensures in
-    (written-number (walkBack _ _) (w .0) (c .written .ensures .0), (w .1, written-count (walkBack _ _) (w .0) _ (c .written .ensures .1)))
+returns c = let w = c .before .before .before .before .before .before .walk-back .ensures in (
+  written-number (walkBack _ _ _ _) (w .0) (c .written .ensures .0),
+  (w .1 .0, (w .1 .1, written-count (walkBack _ _ _ _) (w .0) _ (c .written .ensures .1))),
+)
 
 pub arcstring-walk-back-spec : {M : Type 1} → statement M
 arcstring-walk-back-spec =
     tie.close
-    (tie.spec walk-back-requires written-requires same-length returns)
+    (tie.spec walk-back-requires written-requires same-length same-length-2 returns)

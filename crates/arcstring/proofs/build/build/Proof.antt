@@ -1,26 +1,37 @@
--- `build` answers as its checks do, and else writes the vertices of the string that the points make. Assumes nothing.
-use mathlib.Core.Path.{_≡_, sym, ap, _∙_}
-use Prim.Native.Nat.{_*_, _/_, _≤_}
+-- `build` answers as its checks do, and else writes the vertices of the string that the points make, and their numbers. Assumes nothing.
+use mathlib.Core.Path.{_≡_, sym, _∙_}
+use Prim.Native.Nat.{_-_, _*_, _/_, _≤_}
 use native.Mathlib.Omega.{arith}
 use lib.ListN.{length}
-use Rattle.arcstring.specs.Points.{points}
-use Rattle.arcstring.specs.Check.{checkNumber}
-use Rattle.arcstring.specs.Build.{builtString, build}
-use Rattle.arcstring.proofs.Checks.{build-whole, build-two}
-use Rattle.arcstring.proofs.Builds.{closed-vertices, closed-length, open-vertices, open-length, closed-flag, refused-build, cramped-build, written-build}
+use Rattle.arcstring.specs.Points.{numbered, points}
+use Rattle.arcstring.specs.Build.{builtNumbered, build}
+use Rattle.arcstring.proofs.Written.{both-fit}
+use Rattle.arcstring.proofs.Builds.{closed-vertices, closed-length, open-vertices, open-length, closed-flag, refused-build}
+use Rattle.arcstring.proofs.Builds.{accepted-whole, accepted-two, accepted-buoys, build-short, build-done}
 use borrow.Author.Needs.{needs}
 use Rattle.arcstring.proofs.build.build.Statement.{statement}
 use Rattle.arcstring.proofs.build.build.Tie as tie
 
--- an accepted list is whole triples, and two points at least
-whole : (c : tie.After-enum-told) → length (c .before .before .before .before .before .args .v .now) ≡ 3 * (length (c .before .before .before .before .before .args .v .now) / 3)
-whole c = build-whole (c .before .before .before .before .before .args .v .now) (sym (c .before .before .check-build .ensures) ∙ ap checkNumber (c .enum-told .given .1)) .triples
+-- an accepted list is whole triples, has two points at least, and as many numbers
+whole : (c : tie.After-enum-told) → length (c .before .before .before .before .before .before .before .args .v .now)
+    ≡ 3 * (length (c .before .before .before .before .before .before .before .args .v .now) / 3)
+whole c = let f = c .before .before in
+    let s = f .before .before .before .before .before in
+    accepted-whole _ (s .args .v .now) (s .args .buoys .now) (s .args .out .now) (s .args .out-buoys .now) (f .check-building .ensures) (c .enum-told .given .1)
 
-two : (c : tie.After-enum-told) → 2 ≤ length (c .before .before .before .before .before .args .v .now) / 3
-two c = build-two (c .before .before .before .before .before .args .v .now) (sym (c .before .before .check-build .ensures) ∙ ap checkNumber (c .enum-told .given .1))
+two : (c : tie.After-enum-told) → 2 ≤ length (c .before .before .before .before .before .before .before .args .v .now) / 3
+two c = let f = c .before .before in
+    let s = f .before .before .before .before .before in
+    accepted-two _ (s .args .v .now) (s .args .buoys .now) (s .args .out .now) (s .args .out-buoys .now) (f .check-building .ensures) (c .enum-told .given .1)
 
-check-build-requires : tie.Need-check-build-requires
-check-build-requires c κs = search needs
+as-many : (c : tie.After-enum-told) → length (c .before .before .before .before .before .before .before .args .buoys .now)
+    ≡ length (c .before .before .before .before .before .before .before .args .v .now) / 3
+as-many c = let f = c .before .before in
+    let s = f .before .before .before .before .before in
+    accepted-buoys _ (s .args .v .now) (s .args .buoys .now) (s .args .out .now) (s .args .out-buoys .now) (f .check-building .ensures) (c .enum-told .given .1)
+
+check-building-requires : tie.Need-check-building-requires
+check-building-requires c κs = search needs
 
 enum-known-checked : tie.Need-enum-known-checked
 enum-known-checked c = search needs
@@ -28,8 +39,9 @@ enum-known-checked c = search needs
 returns : tie.Need-returns
 unfolding build
 returns c = let f = c .before .before .before in
-    let s = f .before .before .before in
-    refused-build _ (builtString (points (s .args .v .now))) (s .args .v .now) (s .args .out .now) (f .check-build .ensures) _ (c .before .checked .given .1)
+    let s = f .before .before .before .before .before in
+    refused-build _ (builtNumbered (numbered (points (s .args .v .now)) (s .args .buoys .now)))
+    (s .args .v .now) (s .args .buoys .now) (s .args .out .now) (s .args .out-buoys .now) (f .check-building .ensures) _ (c .before .checked .given .1)
 
 enum-told : tie.Need-enum-told
 enum-told c = search needs
@@ -43,35 +55,61 @@ sub-if2 c = omega (arith, two (c .before .before))
 mul-if2 : tie.Need-mul-if2
 mul-if2 c = search needs
 
+sub-if2-2 : tie.Need-sub-if2-2
+sub-if2-2 c = omega (arith, two (c .before .before))
+
 returns-2 : tie.Need-returns-2
 unfolding build
 returns-2 c = let d = c .before .before in
-    let f = d .before .before .before in
-    let s = f .before .before .before in
+    let e = d .before in
+    let f = e .before .before in
+    let s = f .before .before .before .before .before in
+    let v = s .args .v .now in
     let meet = sym (d .ends-meet .ensures) ∙ c .before .if1 .taken in
-    cramped-build _ (builtString (points (s .args .v .now))) (s .args .v .now) (s .args .out .now) (f .check-build .ensures) _ (d .before .enum-told .given .1) (closed-length (s .args .v .now) _ (whole (d .before)) meet) (c .if2 .taken)
+    build-short _ (s .args .v .now) (s .args .buoys .now) (s .args .out .now) (s .args .out-buoys .now) (f .check-building .ensures) (e .enum-told .given .1)
+    _ _ (closed-vertices v _ (whole e) meet) (closed-length v _ (whole e) meet) (c .if2 .taken)
 
 sub-build-closed : tie.Need-sub-build-closed
 sub-build-closed c = omega (arith, two (c .before .before .before))
 
 build-closed-requires : tie.Need-build-closed-requires
-build-closed-requires c κs = search needs
+build-closed-requires c κs = let l = c .before in
+    let e = l .before .before .before in
+    (omega (arith, two e, whole e), both-fit _ _ _ (l .if2 .left) .0)
 
-sub-t9 : tie.Need-sub-t9
-sub-t9 c = omega (arith, two (c .before .before .before .before .before .before .before))
+sub-copy-buoys : tie.Need-sub-copy-buoys
+sub-copy-buoys c = omega (arith, two (c .before .before .before .before .before .before .before))
+
+copy-buoys-requires : tie.Need-copy-buoys-requires
+copy-buoys-requires c κs = let l = c .before .before .before .before .before in
+    let e = l .before .before .before in
+    let s = e .before .before .before .before .before .before .before in
+    let n = length (s .args .v .now) / 3 in
+    (omega (arith, two e, as-many e), omega (arith, both-fit (length (s .args .out .now)) (length (s .args .out-buoys .now)) (n - 1) (l .if2 .left) .1))
+
+sub-t10 : tie.Need-sub-t10
+sub-t10 c = omega (arith, two (c .before .before .before .before .before .before .before .before .before .before .before))
 
 same-length : tie.Need-same-length
 same-length c = search needs
 
+same-length-2 : tie.Need-same-length-2
+same-length-2 c = search needs
+
 returns-3 : tie.Need-returns-3
 unfolding build
-returns-3 c = let b = c .before .before .before .before in
-    let d = b .before .before in
-    let f = d .before .before .before in
-    let s = f .before .before .before in
-    let meet = sym (d .ends-meet .ensures) ∙ b .before .if1 .taken in
-    let w = whole (d .before) in
-    written-build _ (builtString (points (s .args .v .now))) (s .args .v .now) (s .args .out .now) (f .check-build .ensures) _ _ _ _ (d .before .enum-told .given .1) (closed-length (s .args .v .now) _ w meet) (sym meet ∙ closed-flag (points (s .args .v .now))) (closed-vertices (s .args .v .now) _ w meet) (b .if2 .left) (c .before .before .build-closed .ensures)
+returns-3 c = let cb = c .before .before in
+    let bc = cb .before .before .before .before in
+    let l = bc .before .before in
+    let d = l .before .before in
+    let e = d .before in
+    let f = e .before .before in
+    let s = f .before .before .before .before .before in
+    let v = s .args .v .now in
+    let meet = sym (d .ends-meet .ensures) ∙ l .before .if1 .taken in
+    build-done _ (s .args .v .now) (s .args .buoys .now) (s .args .out .now) (s .args .out-buoys .now) (f .check-building .ensures) (e .enum-told .given .1)
+    _ _ (closed-vertices v _ (whole e) meet) (closed-length v _ (whole e) meet) _ _ _
+    (l .if2 .left) (sym meet ∙ closed-flag (points v)) (omega (arith, as-many e)) (bc .build-closed .ensures) (cb .copy-buoys .ensures)
 
 mul-if3 : tie.Need-mul-if3
 mul-if3 c = search needs
@@ -79,46 +117,72 @@ mul-if3 c = search needs
 returns-4 : tie.Need-returns-4
 unfolding build
 returns-4 c = let d = c .before .before in
-    let f = d .before .before .before in
-    let s = f .before .before .before in
+    let e = d .before in
+    let f = e .before .before in
+    let s = f .before .before .before .before .before in
+    let v = s .args .v .now in
     let apart = sym (d .ends-meet .ensures) ∙ c .before .if1 .left in
-    cramped-build _ (builtString (points (s .args .v .now))) (s .args .v .now) (s .args .out .now) (f .check-build .ensures) _ (d .before .enum-told .given .1) (open-length (s .args .v .now) _ (whole (d .before)) apart) (c .if3 .taken)
+    build-short _ (s .args .v .now) (s .args .buoys .now) (s .args .out .now) (s .args .out-buoys .now) (f .check-building .ensures) (e .enum-told .given .1)
+    _ _ (open-vertices v _ (whole e) apart) (open-length v _ (whole e) apart) (c .if3 .taken)
 
 build-open-requires : tie.Need-build-open-requires
-build-open-requires c κs = search needs
+build-open-requires c κs = let l = c .before in
+    let e = l .before .before .before in
+    (omega (arith, whole e), both-fit _ _ _ (l .if3 .left) .0)
 
-same-length-2 : tie.Need-same-length-2
-same-length-2 c = search needs
+copy-buoys-requires-2 : tie.Need-copy-buoys-requires-2
+copy-buoys-requires-2 c κs = let l = c .before .before .before .before .before in
+    let e = l .before .before .before in
+    let s = e .before .before .before .before .before .before .before in
+    let n = length (s .args .v .now) / 3 in
+    (omega (arith, as-many e), omega (arith, both-fit (length (s .args .out .now)) (length (s .args .out-buoys .now)) n (l .if3 .left) .1))
+
+same-length-3 : tie.Need-same-length-3
+same-length-3 c = search needs
+
+same-length-4 : tie.Need-same-length-4
+same-length-4 c = search needs
 
 returns-5 : tie.Need-returns-5
 unfolding build
-returns-5 c = let b = c .before .before .before .before in
-    let d = b .before .before in
-    let f = d .before .before .before in
-    let s = f .before .before .before in
-    let apart = sym (d .ends-meet .ensures) ∙ b .before .if1 .left in
-    let w = whole (d .before) in
-    written-build _ (builtString (points (s .args .v .now))) (s .args .v .now) (s .args .out .now) (f .check-build .ensures) _ _ _ _ (d .before .enum-told .given .1) (open-length (s .args .v .now) _ w apart) (sym apart ∙ closed-flag (points (s .args .v .now))) (open-vertices (s .args .v .now) _ w apart) (b .if3 .left) (c .before .before .build-open .ensures)
+returns-5 c = let cb = c .before .before in
+    let bo = cb .before .before .before .before in
+    let l = bo .before .before in
+    let d = l .before .before in
+    let e = d .before in
+    let f = e .before .before in
+    let s = f .before .before .before .before .before in
+    let v = s .args .v .now in
+    let apart = sym (d .ends-meet .ensures) ∙ l .before .if1 .left in
+    build-done _ (s .args .v .now) (s .args .buoys .now) (s .args .out .now) (s .args .out-buoys .now) (f .check-building .ensures) (e .enum-told .given .1)
+    _ _ (open-vertices v _ (whole e) apart) (open-length v _ (whole e) apart) _ _ _
+    (l .if3 .left) (sym apart ∙ closed-flag (points v)) (omega (arith, as-many e)) (bo .build-open .ensures) (cb .copy-buoys2 .ensures)
 
 pub build-spec : {M : Type 1} → statement M
 build-spec =
     tie.close
     (tie.spec
-    check-build-requires
+    check-building-requires
     enum-known-checked
     returns
     enum-told
     ends-meet-requires
     sub-if2
     mul-if2
+    sub-if2-2
     returns-2
     sub-build-closed
     build-closed-requires
-    sub-t9
+    sub-copy-buoys
+    copy-buoys-requires
+    sub-t10
     same-length
+    same-length-2
     returns-3
     mul-if3
     returns-4
     build-open-requires
-    same-length-2
+    copy-buoys-requires-2
+    same-length-3
+    same-length-4
     returns-5)

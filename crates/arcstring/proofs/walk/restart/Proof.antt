@@ -1,76 +1,89 @@
--- `restart` answers as its checks do, and else writes the vertices from where the string restarts. Assumes nothing.
-use mathlib.Core.Path.{ap, _∙_}
-use mathlib.Core.List.{List, _++_}
-use Prim.Native.Nat.{_*_, _/_}
+-- `restart` answers as its checks do, and else writes the vertices and their numbers from the start on that it was given. Assumes nothing.
+use Prim.Native.Nat.{_/_}
 use native.Mathlib.Omega.{arith}
-use lib.ListN.{length, drop}
-use lib.Ieee.{Float}
-use Rattle.arcstring.specs.Walk.{restart}
-use Rattle.arcstring.proofs.Answers.{both-numbers}
-use Rattle.arcstring.proofs.Walks.{refused-move, written-move, accepted-triples, accepted-room, restart-within, restart-floats, length-restarted}
+use lib.ListN.{length}
+use Rattle.arcstring.proofs.Written.{both-fit}
+use Rattle.arcstring.proofs.Walks.{accepted-triples, accepted-buoys, restart-within, restart-refused, restart-short, restart-written}
 use borrow.Author.Needs.{needs}
 use Rattle.arcstring.proofs.walk.restart.Statement.{statement}
 use Rattle.arcstring.proofs.walk.restart.Tie as tie
 
-check-stored-requires : tie.Need-check-stored-requires
-check-stored-requires c κs = search needs
-
-check-room-requires : tie.Need-check-room-requires
-check-room-requires c κs = search needs
-
-first-of-requires : tie.Need-first-of-requires
-first-of-requires c κs = search needs
+check-string-requires : tie.Need-check-string-requires
+check-string-requires c κs = search needs
 
 enum-known-checked : tie.Need-enum-known-checked
 enum-known-checked c = search needs
 
+returns : tie.Need-returns
+returns c = let f = c .before .before .before in
+    let s = f .before .before .before .before .before in
+    restart-refused _ (s .args .v .now) (s .args .out .now) (s .args .buoys .now) (s .args .out-buoys .now) (f .check-string .ensures)
+    (s .args .closed) (s .args .at) _ (c .before .checked .given .1)
+
 enum-told : tie.Need-enum-told
 enum-told c = search needs
+
+mul-if1 : tie.Need-mul-if1
+mul-if1 c = search needs
+
+returns-2 : tie.Need-returns-2
+returns-2 c = let f = c .before .before .before in
+    let s = f .before .before .before .before .before in
+    restart-short _ (s .args .v .now) (s .args .out .now) (s .args .buoys .now) (s .args .out-buoys .now) (f .check-string .ensures)
+    (s .args .closed) (s .args .at) (c .before .enum-told .given .1) (c .if1 .taken)
 
 restart-vertex-requires : tie.Need-restart-vertex-requires
 restart-vertex-requires c κs = search needs
 
 rotate-vertices-requires : tie.Need-rotate-vertices-requires
-rotate-vertices-requires c κs = let d = c .before .before in
-    let f = d .before .before in
+rotate-vertices-requires c κs = let l = c .before .before in
+    let f = l .before .before .before in
     let s = f .before .before .before .before .before in
-    let number = (f .first-of .ensures ∙ both-numbers (f .before .before .check-stored .ensures) (f .before .check-room .ensures)) in
-    let whole = accepted-triples _ (s .args .v .now) (s .args .out .now) number (d .enum-told .given .1) in
-    let room = accepted-room _ (s .args .v .now) (s .args .out .now) number (d .enum-told .given .1) in
-    (whole, restart-within (s .args .closed) (s .args .at) _ _ (c .before .restart-vertex .ensures), omega arith)
+    let whole = accepted-triples _ (s .args .v .now) (s .args .out .now) (s .args .buoys .now) (s .args .out-buoys .now)
+    (f .check-string .ensures) (l .before .enum-told .given .1) in
+    (whole, restart-within (s .args .closed) (s .args .at) _ _ (c .before .restart-vertex .ensures), both-fit _ _ _ (l .if1 .left) .0)
 
-returns : tie.Need-returns
-unfolding restart
-returns c = let f = c .before .before .before in
+rotate-buoys-requires : tie.Need-rotate-buoys-requires
+rotate-buoys-requires c κs = let k = c .before .before .before .before .before in
+    let l = k .before in
+    let f = l .before .before .before in
     let s = f .before .before .before .before .before in
-    refused-move _ (s .args .v .now) (s .args .out .now) (f .first-of .ensures ∙ both-numbers (f .before .before .check-stored .ensures) (f .before .check-room .ensures)) _ _ (c .before .checked .given .1)
+    let same = accepted-buoys _ (s .args .v .now) (s .args .out .now) (s .args .buoys .now) (s .args .out-buoys .now)
+    (f .check-string .ensures) (l .before .enum-told .given .1) in
+    let within = restart-within (s .args .closed) (s .args .at) (length (s .args .v .now) / 3) _ (k .restart-vertex .ensures) in
+    let room = both-fit (length (s .args .out .now)) (length (s .args .out-buoys .now)) (length (s .args .v .now) / 3) (l .if1 .left) .1 in
+    (omega arith, omega arith)
 
 same-length : tie.Need-same-length
 same-length c = search needs
 
-returns-2 : tie.Need-returns-2
-unfolding restart
-returns-2 c = let d = c .before .before .before .before .before in
-    let f = d .before .before in
+same-length-2 : tie.Need-same-length-2
+same-length-2 c = search needs
+
+returns-3 : tie.Need-returns-3
+returns-3 c = let rb = c .before .before in
+    let rv = rb .before .before .before .before in
+    let k = rv .before .before in
+    let l = k .before in
+    let f = l .before .before .before in
     let s = f .before .before .before .before .before in
-    let number = (f .first-of .ensures ∙ both-numbers (f .before .before .check-stored .ensures) (f .before .check-room .ensures)) in
-    let n = length (s .args .v .now) / 3 in
-    let whole = accepted-triples _ (s .args .v .now) (s .args .out .now) number (d .enum-told .given .1) in
-    let floats = restart-floats (s .args .v .now) n (s .args .closed) (s .args .at) _ whole (c .before .before .before .before .restart-vertex .ensures) in
-    written-move _ (s .args .v .now) (s .args .out .now) number _ _ _ (d .enum-told .given .1) (length-restarted (s .args .v .now) n (s .args .closed) (s .args .at) whole)
-    (c .before .before .rotate-vertices .ensures ∙ ap (λ (w : List Float). w ++ drop (3 * n) (s .args .out .now)) floats)
+    restart-written _ (s .args .v .now) (s .args .out .now) (s .args .buoys .now) (s .args .out-buoys .now) (f .check-string .ensures)
+    (s .args .closed) (s .args .at) (l .before .enum-told .given .1)
+    _ _ _ (k .restart-vertex .ensures) (l .if1 .left) (rv .rotate-vertices .ensures) (rb .rotate-buoys .ensures)
 
 pub restart-spec : {M : Type 1} → statement M
 restart-spec =
     tie.close
     (tie.spec
-    check-stored-requires
-    check-room-requires
-    first-of-requires
+    check-string-requires
     enum-known-checked
+    returns
     enum-told
+    mul-if1
+    returns-2
     restart-vertex-requires
     rotate-vertices-requires
-    returns
+    rotate-buoys-requires
     same-length
-    returns-2)
+    same-length-2
+    returns-3)

@@ -1,64 +1,84 @@
--- `walk_back` answers as its checks do, and else writes the vertices backwards. Assumes nothing.
-use mathlib.Core.Path.{_∙_}
+-- `walk_back` answers as its checks do, and else writes the vertices and their numbers backwards. Assumes nothing.
+use Prim.Native.Nat.{_/_}
 use native.Mathlib.Omega.{arith}
-use Rattle.arcstring.specs.Walk.{walkBack}
-use Rattle.arcstring.proofs.Answers.{both-numbers}
-use Rattle.arcstring.proofs.Walks.{refused-move, written-move, accepted-triples, accepted-room, length-backwards}
+use lib.ListN.{length}
+use Rattle.arcstring.proofs.Written.{both-fit}
+use Rattle.arcstring.proofs.Walks.{accepted-triples, accepted-buoys, back-refused, back-short, back-written}
 use borrow.Author.Needs.{needs}
 use Rattle.arcstring.proofs.walk.walk_back.Statement.{statement}
 use Rattle.arcstring.proofs.walk.walk_back.Tie as tie
 
-check-stored-requires : tie.Need-check-stored-requires
-check-stored-requires c κs = search needs
-
-check-room-requires : tie.Need-check-room-requires
-check-room-requires c κs = search needs
-
-first-of-requires : tie.Need-first-of-requires
-first-of-requires c κs = search needs
+check-string-requires : tie.Need-check-string-requires
+check-string-requires c κs = search needs
 
 enum-known-checked : tie.Need-enum-known-checked
 enum-known-checked c = search needs
 
+returns : tie.Need-returns
+returns c = let f = c .before .before .before in
+    let s = f .before .before .before .before .before in
+    back-refused _ (s .args .v .now) (s .args .out .now) (s .args .buoys .now) (s .args .out-buoys .now)
+    (f .check-string .ensures) _ (c .before .checked .given .1)
+
 enum-told : tie.Need-enum-told
 enum-told c = search needs
 
-reverse-vertices-requires : tie.Need-reverse-vertices-requires
-reverse-vertices-requires c κs = let f = c .before .before .before in
-    let s = f .before .before .before .before .before in
-    let number = (f .first-of .ensures ∙ both-numbers (f .before .before .check-stored .ensures) (f .before .check-room .ensures)) in
-    let whole = accepted-triples _ (s .args .v .now) (s .args .out .now) number (c .before .enum-told .given .1) in
-    let room = accepted-room _ (s .args .v .now) (s .args .out .now) number (c .before .enum-told .given .1) in
-    (whole, omega arith)
+mul-if1 : tie.Need-mul-if1
+mul-if1 c = search needs
 
-returns : tie.Need-returns
-unfolding walkBack
-returns c = let f = c .before .before .before in
+returns-2 : tie.Need-returns-2
+returns-2 c = let f = c .before .before .before in
     let s = f .before .before .before .before .before in
-    refused-move _ (s .args .v .now) (s .args .out .now) (f .first-of .ensures ∙ both-numbers (f .before .before .check-stored .ensures) (f .before .check-room .ensures)) _ _ (c .before .checked .given .1)
+    back-short _ (s .args .v .now) (s .args .out .now) (s .args .buoys .now) (s .args .out-buoys .now)
+    (f .check-string .ensures) (c .before .enum-told .given .1) (c .if1 .taken)
+
+reverse-vertices-requires : tie.Need-reverse-vertices-requires
+reverse-vertices-requires c κs = let l = c .before in
+    let f = l .before .before .before in
+    let s = f .before .before .before .before .before in (
+      accepted-triples _ (s .args .v .now) (s .args .out .now) (s .args .buoys .now) (s .args .out-buoys .now)
+          (f .check-string .ensures) (l .before .enum-told .given .1),
+      both-fit _ _ _ (l .if1 .left) .0,
+    )
+
+reverse-buoys-requires : tie.Need-reverse-buoys-requires
+reverse-buoys-requires c κs = let l = c .before .before .before .before .before in
+    let f = l .before .before .before in
+    let s = f .before .before .before .before .before in
+    let room = both-fit (length (s .args .out .now)) (length (s .args .out-buoys .now)) (length (s .args .v .now) / 3) (l .if1 .left) .1 in
+    omega (
+      arith,
+      accepted-buoys _ (s .args .v .now) (s .args .out .now) (s .args .buoys .now) (s .args .out-buoys .now)
+          (f .check-string .ensures) (l .before .enum-told .given .1),
+    )
 
 same-length : tie.Need-same-length
 same-length c = search needs
 
-returns-2 : tie.Need-returns-2
-unfolding walkBack
-returns-2 c = let d = c .before .before .before .before in
-    let f = d .before .before in
+same-length-2 : tie.Need-same-length-2
+same-length-2 c = search needs
+
+returns-3 : tie.Need-returns-3
+returns-3 c = let rb = c .before .before in
+    let rv = rb .before .before .before .before in
+    let l = rv .before .before in
+    let f = l .before .before .before in
     let s = f .before .before .before .before .before in
-    let number = (f .first-of .ensures ∙ both-numbers (f .before .before .check-stored .ensures) (f .before .check-room .ensures)) in
-    let whole = accepted-triples _ (s .args .v .now) (s .args .out .now) number (d .enum-told .given .1) in
-    written-move _ (s .args .v .now) (s .args .out .now) number _ _ _ (d .enum-told .given .1) (length-backwards (s .args .v .now) _ whole) (c .before .before .reverse-vertices .ensures)
+    back-written _ (s .args .v .now) (s .args .out .now) (s .args .buoys .now) (s .args .out-buoys .now) (f .check-string .ensures)
+    (l .before .enum-told .given .1) _ _ (l .if1 .left) (rv .reverse-vertices .ensures) (rb .reverse-buoys .ensures)
 
 pub walk-back-spec : {M : Type 1} → statement M
 walk-back-spec =
     tie.close
     (tie.spec
-    check-stored-requires
-    check-room-requires
-    first-of-requires
+    check-string-requires
     enum-known-checked
-    enum-told
-    reverse-vertices-requires
     returns
+    enum-told
+    mul-if1
+    returns-2
+    reverse-vertices-requires
+    reverse-buoys-requires
     same-length
-    returns-2)
+    same-length-2
+    returns-3)

@@ -23,10 +23,15 @@ same-length-2 c = search needs
 same-length-3 : tie.Need-same-length-3
 same-length-3 c = search needs
 
+same-length-4 : tie.Need-same-length-4
+same-length-4 c = search needs
+
 returns : tie.Need-returns
-returns c = let d = c .before .before .before .before .before .before .before .before in
-    let w = rw (d .before .before .before .before .is-closed .ensures) at (d .split-arcstring-at-points .ensures) in
-    (pieces-number (splitString _ _ _ _ _ _) (w .0) (c .cut .ensures .0), (w .1 .0, (w .1 .1 .0, (w .1 .1 .1, pieces-count (splitString _ _ _ _ _ _) (w .0) _ (c .cut .ensures .1)))))
+returns c = let d = c .before .before .before .before .before .before .before .before .before .before in
+    let w = rw (d .before .before .before .before .before .is-closed .ensures) at (d .split-arcstring-at-points .ensures) in (
+      pieces-number (splitString _ _ _ _ _ _ _ _ _) (w .0) (c .cut .ensures .0),
+      (w .1 .0, (w .1 .1 .0, (w .1 .1 .1 .0, (w .1 .1 .1 .1, pieces-count (splitString _ _ _ _ _ _ _ _ _) (w .0) _ (c .cut .ensures .1))))),
+    )
 
 pub arcstring-split-spec : {M : Type 1} → statement M
 arcstring-split-spec =
@@ -38,4 +43,5 @@ arcstring-split-spec =
     same-length
     same-length-2
     same-length-3
+    same-length-4
     returns)

@@ -1,7 +1,10 @@
 -- `round` leaves what one round leaves, or refuses where a removal lies past the end. Assumes nothing.
+use mathlib.Core.List.{map}
 use native.Mathlib.Omega.{arith}
-use borrow.Author.Needs.{needs}
+use lib.ListN.{length-map}
+use Rattle.arcstring.specs.Points.{pointAt}
 use Rattle.arcstring_simplify.proofs.OneRound.{left-of-open, left-by-first, left-past-end, left-shifted}
+use borrow.Author.Needs.{needs}
 use Rattle.arcstring_simplify.proofs.simplify.round.Statement.{statement}
 use Rattle.arcstring_simplify.proofs.simplify.round.Tie as tie
 
@@ -13,8 +16,10 @@ same-length c = search needs
 
 returns : tie.Need-returns
 returns c = let left = c .before .before .keep .ensures in
-    let s = c .before .before .before .before .before .before .before in
-    (left-of-open (s .args .v .now) (s .args .n) (s .pre .0) (s .pre .1) (s .args .closed) _ (c .before .before .before .before .if1 .taken) (left .1), left .0)
+    let s = c .before .before .before .before .before .before .before .before in
+    let f = pointAt (s .args .v .now) in
+    let at = s .args .at .now in
+    (left-of-open (map f at) at (length-map at f) (s .pre .1) (s .args .closed) _ (c .before .before .before .before .if1 .taken) (left .1), left .0)
 
 unnecessary-requires : tie.Need-unnecessary-requires
 unnecessary-requires c κs = search needs
@@ -28,8 +33,13 @@ same-length-2 c = search needs
 returns-2 : tie.Need-returns-2
 returns-2 c = let left = c .before .before .keep2 .ensures in
     let d = c .before .before .before .before .before in
-    let s = d .before .before .before .before in
-    (left-by-first (s .args .v .now) (s .args .n) (s .pre .0) (s .pre .1) (s .args .closed) (d .before .if1 .left) _ (d .unnecessary .ensures) _ (c .before .before .before .before .if2 .taken) (left .1), left .0)
+    let s = d .before .before .before .before .before in
+    let f = pointAt (s .args .v .now) in
+    let at = s .args .at .now in (
+      left-by-first (map f at) at (length-map at f) (s .pre .1) (s .args .closed) (d .before .if1 .left) _ (d .unnecessary .ensures) _
+          (c .before .before .before .before .if2 .taken) (left .1),
+      left .0,
+    )
 
 sub-unnecessary : tie.Need-sub-unnecessary
 sub-unnecessary c = search needs
@@ -39,8 +49,13 @@ unnecessary-requires-2 c κs = search needs
 
 returns-3 : tie.Need-returns-3
 returns-3 c = let d = c .before .before .before in
-    let s = d .before .before .before .before in
-    (left-past-end (s .args .v .now) (s .args .n) (s .pre .0) (s .pre .1) (s .args .closed) (d .before .if1 .left) _ (d .unnecessary .ensures) (c .before .before .if2 .left) _ (c .before .unnecessary2 .ensures) (c .if3 .taken), omega arith)
+    let s = d .before .before .before .before .before in
+    let f = pointAt (s .args .v .now) in
+    let at = s .args .at .now in (
+      left-past-end (map f at) at (length-map at f) (s .pre .1) (s .args .closed) (d .before .if1 .left) _ (d .unnecessary .ensures)
+          (c .before .before .if2 .left) _ (c .before .unnecessary2 .ensures) (c .if3 .taken),
+      omega arith,
+    )
 
 keep-requires-3 : tie.Need-keep-requires-3
 keep-requires-3 c κs = search needs
@@ -52,8 +67,13 @@ returns-4 : tie.Need-returns-4
 returns-4 c = let left = c .before .before .keep3 .ensures in
     let e = c .before .before .before .before .before in
     let d = e .before .before in
-    let s = d .before .before .before .before in
-    (left-shifted (s .args .v .now) (s .args .n) (s .pre .0) (s .pre .1) (s .args .closed) (d .before .if1 .left) _ (d .unnecessary .ensures) (e .before .if2 .left) _ (e .unnecessary2 .ensures) _ (c .before .before .before .before .if3 .left) (left .1), left .0)
+    let s = d .before .before .before .before .before in
+    let f = pointAt (s .args .v .now) in
+    let at = s .args .at .now in (
+      left-shifted (map f at) at (length-map at f) (s .pre .1) (s .args .closed) (d .before .if1 .left) _ (d .unnecessary .ensures)
+          (e .before .if2 .left) _ (e .unnecessary2 .ensures) _ (c .before .before .before .before .if3 .left) (left .1),
+      left .0,
+    )
 
 pub round-spec : {M : Type 1} → statement M
 round-spec =

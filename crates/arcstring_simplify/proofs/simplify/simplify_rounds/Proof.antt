@@ -1,31 +1,37 @@
 -- `simplify_rounds` works round by round: what is left after each has the answer of the whole. Assumes nothing.
-use mathlib.Core.Path.{_≡_, refl, sym, _∙_}
-use Prim.Native.Nat.{_≤_}
+use mathlib.Core.Path.{_≡_, refl, sym, subst, _∙_}
+use mathlib.Core.List.{List}
+use Prim.Native.Nat.{ℕ, _≤_, _/_}
 use native.Mathlib.Omega.{arith}
-use lib.ListN.{length}
+use lib.ListN.{length, take}
 use lib.Seq.{length-take-le}
 use borrow.Author.Needs.{needs}
-use Rattle.arcstring.specs.Work.{firstOfList}
+use Rattle.arcstring.specs.Points.{pointAt}
+use Rattle.arcstring.specs.Positions.{Within}
 use Rattle.arcstring_simplify.specs.Simplify.{simplified}
-use Rattle.arcstring_simplify.proofs.RoundSteps.{written-at-most, refused-round, last-round, next-round, no-more-rounds}
+use Rattle.arcstring_simplify.proofs.RoundSteps.{written-at-most, refused-round, kept-left, last-round, here, next-round, no-more-rounds, round-within}
 use Rattle.arcstring_simplify.proofs.simplify.simplify_rounds.Statement.{statement}
 use Rattle.arcstring_simplify.proofs.simplify.simplify_rounds.Tie as tie
 
 abbrev Inv-loop : tie.InvT-loop
-Inv-loop work₀ n closed next₀ m₀ work next m = (m ≤ n) × (length work ≡ length work₀) × (length next ≡ length next₀) × (simplified closed (firstOfList m work) ≡ simplified closed (firstOfList n work₀))
+Inv-loop v at₀ n closed next₀ m₀ at next m =
+    (m ≤ n) × (length at ≡ length at₀) × (length next ≡ length next₀)
+    × (simplified (pointAt v) closed (take m at) ≡ simplified (pointAt v) closed (take n at₀)) × Within (length v / 3) (take m at)
 
 abbrev μ-loop : tie.MeasureT-loop
-μ-loop work₀ n closed next₀ m₀ work next m = m
+μ-loop v at₀ n closed next₀ m₀ at next m = m
 
 loop-holds : tie.Need-loop-holds Inv-loop μ-loop
-loop-holds c = (omega arith, refl, refl, refl)
+loop-holds c = let s = c .before .before .before in (omega arith, refl, refl, refl, s .pre .0)
+
+-- so many positions stand in the list
+long : (c : tie.At-loop Inv-loop μ-loop) → length (take (c .loop .m) (c .loop .at)) ≡ c .loop .m
+long c = length-take-le (c .loop .m) (c .loop .at) (omega arith)
 
 -- a round leaves no more than it had
 few : (c : tie.After-left Inv-loop μ-loop) → c .left .given .0 .0 ≤ c .before .before .before .before .before .before .before .before .loop .m
-few c = written-at-most _ _ _ (c .left .given .1) (c .before .before .before .before .round .ensures .1)
-
-mul-end : tie.Need-mul-end Inv-loop μ-loop
-mul-end c = search needs
+few c = let l = long (c .before .before .before .before .before .before .before .before) in
+    omega (arith, written-at-most _ _ _ (c .left .given .1) (c .before .before .before .before .round .ensures .1))
 
 slice-reshare-prefix-round : tie.Need-slice-reshare-prefix-round Inv-loop μ-loop
 slice-reshare-prefix-round c = search needs
@@ -34,7 +40,9 @@ slice-aggregate-round : tie.Need-slice-aggregate-round Inv-loop μ-loop
 slice-aggregate-round c = sym (length-take-le _ _ (omega arith))
 
 round-requires : tie.Need-round-requires Inv-loop μ-loop
-round-requires c κs = (length-take-le _ _ (omega arith), omega arith, omega arith)
+round-requires c κs = let l = c .before .before .before .loop in
+    let e = length-take-le (l .m) (l .at) (omega arith) in
+    (l .inv .4, omega arith, omega arith)
 
 enum-known-left : tie.Need-enum-known-left Inv-loop μ-loop
 enum-known-left c = search needs
@@ -51,8 +59,11 @@ same-length-2 c = search needs
 returns : tie.Need-returns Inv-loop μ-loop
 returns c = let round = c .before .before .before .before .round in
     let l = c .before .before .before .before .before .before .before .before .loop in
-    let s = c .before .before .before .before .before .before .before .before .before .before .before in
-    (refused-round (s .args .closed) (l .m) (l .work) _ _ _ (omega arith) (omega arith) (round .ensures .0) (l .inv .3) _ (c .enum-told .given .1), omega (arith, round .ensures .1, l .inv .0))
+    let s = c .before .before .before .before .before .before .before .before .before .before .before .before in (
+      refused-round (pointAt (s .args .v .now)) (s .args .closed) (l .m) (l .at) _ _ _ (omega arith) (omega arith) (round .ensures .0) (l .inv .3) _
+          (c .enum-told .given .1),
+      omega (arith, long (c .before .before .before .before .before .before .before .before), round .ensures .1, l .inv .0),
+    )
 
 same-length-3 : tie.Need-same-length-3 Inv-loop μ-loop
 same-length-3 c = search needs
@@ -64,11 +75,14 @@ returns-2 : tie.Need-returns-2 Inv-loop μ-loop
 returns-2 c = let d = c .before .before in
     let round = d .before .before .before .before .round in
     let l = d .before .before .before .before .before .before .before .before .loop in
-    let s = d .before .before .before .before .before .before .before .before .before .before .before in
-    (last-round (s .args .closed) (l .m) (l .work) _ _ _ (omega arith) (omega arith) (round .ensures .0) (l .inv .3) _ (d .left .given .1) (omega (arith, few d)) (c .if1 .taken), l .inv .0)
+    let s = d .before .before .before .before .before .before .before .before .before .before .before .before in (
+      last-round (pointAt (s .args .v .now)) (s .args .closed) (l .m) (l .at) _ _ _ (omega arith) (omega arith) (round .ensures .0) (l .inv .3) _
+          (d .left .given .1) (omega (arith, few d)) (c .if1 .taken),
+      l .inv .0,
+    )
 
-copy-run-requires : tie.Need-copy-run-requires Inv-loop μ-loop
-copy-run-requires c κs = let f = few (c .before .before .before .before) in (omega arith, omega arith)
+copy-numbers-requires : tie.Need-copy-numbers-requires Inv-loop μ-loop
+copy-numbers-requires c κs = let f = few (c .before .before .before .before) in (omega arith, omega arith)
 
 loop-less : tie.Need-loop-less Inv-loop μ-loop
 loop-less c = let f = few (c .before .before .before .before .before .before .before) in omega arith
@@ -76,11 +90,23 @@ loop-less c = let f = few (c .before .before .before .before .before .before .be
 loop-again : tie.Need-loop-again Inv-loop μ-loop
 loop-again c = let d = c .before .before .before .before .before .before .before in
     let f = few d in
-    let run = c .before .before .copy-run in
+    let run = c .before .before .copy-numbers in
     let round = d .before .before .before .before .round in
     let l = d .before .before .before .before .before .before .before .before .loop in
-    let s = d .before .before .before .before .before .before .before .before .before .before .before in
-    (omega arith, run .kept .1 .1 .1 .0 ∙ l .inv .1, round .kept .1 .1 .1 .0 ∙ l .inv .2, next-round (s .args .closed) (l .m) (l .work) _ _ _ (omega arith) (omega arith) (round .ensures .0) (l .inv .3) _ (d .left .given .1) (omega arith) _ (c .before .before .before .before .before .if1 .left) (run .ensures))
+    let s = d .before .before .before .before .before .before .before .before .before .before .before .before in
+    let v = s .args .v .now in (
+      omega arith,
+      run .kept .1 .1 .0 ∙ l .inv .1,
+      round .kept .1 .1 .1 .0 ∙ l .inv .2,
+      next-round (pointAt (s .args .v .now)) (s .args .closed) (l .m) (l .at) _ _ _ (omega arith) (omega arith) (round .ensures .0) (l .inv .3) _
+          (d .left .given .1) (omega arith) _ (run .ensures) (c .before .before .before .before .before .if1 .left),
+      subst (λ (xs : List ℕ). Within (length v / 3) xs)
+          (sym (here (pointAt (s .args .v .now)) (s .args .closed) (l .m) (l .at) _ _ _ (omega arith) (omega arith) (round .ensures .0) (l .inv .3) _
+          (d .left .given .1) (omega arith) _ (run .ensures)))
+          (round-within (length v / 3) (pointAt v) (s .args .closed) (take (l .m) (l .at)) _
+          (kept-left (pointAt (s .args .v .now)) (s .args .closed) (l .m) (l .at) _ _ _ (omega arith) (omega arith) (round .ensures .0) (l .inv .3) _
+          (d .left .given .1) (omega arith)) (l .inv .4)),
+    )
 
 same-length-5 : tie.Need-same-length-5 Inv-loop μ-loop
 same-length-5 c = c .before .loop .inv .1
@@ -90,8 +116,8 @@ same-length-6 c = c .before .loop .inv .2
 
 returns-3 : tie.Need-returns-3 Inv-loop μ-loop
 returns-3 c = let l = c .before .loop in
-    let s = c .before .before .before .before in
-    (no-more-rounds (s .args .closed) (l .m) (l .work) _ (omega arith) (c .loop-test .left) (l .inv .3), l .inv .0)
+    let s = c .before .before .before .before .before in
+    (no-more-rounds (pointAt (s .args .v .now)) (s .args .closed) (l .m) (l .at) _ (omega arith) (c .loop-test .left) (l .inv .3), l .inv .0)
 
 pub simplify-rounds-spec : {M : Type 1} → statement M
 simplify-rounds-spec =
@@ -100,7 +126,6 @@ simplify-rounds-spec =
     Inv-loop
     μ-loop
     loop-holds
-    mul-end
     slice-reshare-prefix-round
     slice-aggregate-round
     round-requires
@@ -112,7 +137,7 @@ simplify-rounds-spec =
     same-length-3
     same-length-4
     returns-2
-    copy-run-requires
+    copy-numbers-requires
     loop-less
     loop-again
     same-length-5

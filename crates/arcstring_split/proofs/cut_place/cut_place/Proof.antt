@@ -1,25 +1,45 @@
 -- `cut_place` walks over the legs of a copy of the string at place k. Assumes nothing.
-use mathlib.Core.Path.{sym, _∙_}
+use mathlib.Core.Path.{sym}
 use Prim.Native.Nat.{_+_, _*_, _≤_}
 use native.Mathlib.Omega.{arith}
 use lib.ListN.{length, getD}
 use lib.Seq.{length-take-le}
 use Rattle.arcstring_split.proofs.CutLists.{place-some}
-use Rattle.arcstring_split.proofs.CutPlaces.{place-within, place-walk}
+use Rattle.arcstring_split.proofs.CutPlaces.{place-within, copies-whole, place-walk}
 use borrow.Author.Needs.{needs}
 use Rattle.arcstring_split.proofs.cut_place.cut_place.Statement.{statement}
 use Rattle.arcstring_split.proofs.cut_place.cut_place.Tie as tie
 
 -- the string at place k lies within the list, and is not empty
 within : (s : tie.Start) → s .args .at + getD (s .args .counts .now) (s .args .k) 0 ≤ 1024
-within s = place-within (s .args .work .now) (s .args .counts .now) (s .args .flags .now) (s .args .m) (s .pre .2) (s .args .k) (s .pre .0) (s .args .at) (s .pre .1)
+within s = let a = s .args in place-within (a .work .now) (a .buoys .now) (a .counts .now) (a .flags .now) (a .m) (s .pre .2) (a .k) (s .pre .0) (a .at)
+    (s .pre .1)
 
 some : (s : tie.Start) → 1 ≤ getD (s .args .counts .now) (s .args .k) 0
-some s = place-some (s .args .work .now) (s .args .counts .now) (s .args .flags .now) (s .args .m) (s .pre .2) (s .args .k) (s .pre .0)
+some s = let a = s .args in place-some (a .work .now) (a .buoys .now) (a .counts .now) (a .flags .now) (a .m) (s .pre .2) (a .k) (s .pre .0)
 
--- and the copy has room for it
-room : (c : tie.After-copy-run) → 3 * getD (c .before .before .before .before .before .before .before .before .args .counts .now) (c .before .before .before .before .before .before .before .before .args .k) 0 ≤ length (c .copy-run .last .1 .1 .1 .0)
-room c = omega (arith, within (c .before .before .before .before .before .before .before .before), c .copy-run .kept .1 .1 .1 .0, c .before .before .before .before .before .before .before .before .pre .3)
+-- and the copies have room for it
+room : (c : tie.After-copy-run) → 3 * getD (c .before .before .before .before .before .before .before .before .before .before .args .counts .now)
+    (c .before .before .before .before .before .before .before .before .before .before .args .k) 0 ≤ length (c .copy-run .last .1 .1 .1 .0)
+room c = omega (
+  arith,
+  within (c .before .before .before .before .before .before .before .before .before .before),
+  c .copy-run .kept .1 .1 .1 .0,
+  c .before
+      .before .before .before .before .before .before .before .before .before .pre .3,
+)
+
+buoys-room : (c : tie.After-copy-buoys) → getD (c .before .before .before .before .before .before .before .before .before .before .before .before .before
+    .before .before .args .counts .now) (c .before .before .before .before .before .before .before .before .before .before .before .before .before .before
+    .before .args .k) 0 ≤ length (c .copy-buoys .last .1 .1 .1 .0)
+buoys-room c = omega (
+  arith,
+  within (c .before .before .before .before .before .before .before .before .before .before .before .before .before .before
+      .before),
+  c .copy-buoys .kept .1 .1 .1 .0,
+  c .before .before .before .before .before .before .before .before .before .before .before .before .before
+      .before .before .pre .4,
+)
 
 mul-n : tie.Need-mul-n
 mul-n c = search needs
@@ -28,10 +48,19 @@ slice-read-n : tie.Need-slice-read-n
 slice-read-n c = search needs
 
 copy-run-requires : tie.Need-copy-run-requires
-copy-run-requires c κs = let s = c .before .before .before .before .before .before .before in (omega (arith, within s, s .pre .2 .floats), omega (arith, within s, s .pre .3))
+copy-run-requires c κs = let s = c .before .before .before .before .before .before .before .before .before in
+    (omega (arith, within s, s .pre .2 .floats), omega (arith, within s, s .pre .3))
+
+copy-buoys-requires : tie.Need-copy-buoys-requires
+copy-buoys-requires c κs = let s = c .before .before .before .before .before .before .before .before .before .before .before .before .before .before in
+    (omega (arith, within s, s .pre .2 .buoys-room), omega (arith, within s, s .pre .4))
 
 mul-end : tie.Need-mul-end
-mul-end c = omega (arith, within (c .before .before .before .before .before .before .before .before .before .before))
+mul-end c = omega (
+  arith,
+  within (c .before .before .before .before .before .before .before .before .before .before .before .before .before .before .before
+      .before .before),
+)
 
 mul-leg-count : tie.Need-mul-leg-count
 mul-leg-count c = search needs
@@ -40,17 +69,28 @@ slice-read-leg-count : tie.Need-slice-read-leg-count
 slice-read-leg-count c = search needs
 
 leg-count-requires : tie.Need-leg-count-requires
-leg-count-requires c κs = some (c .before .before .before .before .before .before .before .before .before .before .before)
+leg-count-requires c κs = some (c .before .before .before .before .before .before .before .before .before .before .before .before .before .before .before
+    .before .before .before)
 
 slice-reshare-prefix-cut-legs-of : tie.Need-slice-reshare-prefix-cut-legs-of
-slice-reshare-prefix-cut-legs-of c = room (c .before .before .before .before)
+slice-reshare-prefix-cut-legs-of c = room (c .before .before .before .before .before .before .before .before .before)
 
 slice-aggregate-cut-legs-of : tie.Need-slice-aggregate-cut-legs-of
-slice-aggregate-cut-legs-of c = sym (length-take-le _ _ (room (c .before .before .before .before .before)))
+slice-aggregate-cut-legs-of c = sym (length-take-le _ _ (room (c .before .before .before .before .before .before .before .before .before .before)))
+
+slice-reshare-prefix-cut-legs-of-2 : tie.Need-slice-reshare-prefix-cut-legs-of-2
+slice-reshare-prefix-cut-legs-of-2 c = buoys-room (c .before .before .before .before .before)
+
+slice-aggregate-cut-legs-of-2 : tie.Need-slice-aggregate-cut-legs-of-2
+slice-aggregate-cut-legs-of-2 c = sym (length-take-le _ _ (buoys-room (c .before .before .before .before .before .before)))
 
 cut-legs-of-requires : tie.Need-cut-legs-of-requires
-cut-legs-of-requires c κs = let s = c .before .before .before .before .before .before .before .before .before .before .before .before .before .before .before .before in
-    (length-take-le _ _ (room (c .before .before .before .before .before .before .before .before)), c .before .before .before .before .leg-count .ensures .1, omega (arith, within s), s .pre .0, s .pre .1, s .pre .2)
+cut-legs-of-requires c κs = let s = c .before .before .before .before .before .before .before .before .before .before .before .before .before .before .before
+    .before .before .before .before .before .before .before .before .before .before in
+    let parts = copies-whole _ _ _ _ (room (c .before .before .before .before .before .before .before .before .before .before .before .before .before .before
+    .before)) (buoys-room (c .before .before .before .before .before .before .before .before .before .before))
+    (c .before .before .before .before .before .before .leg-count .ensures .1) (omega (arith, within s)) in
+    (parts .0, parts .1, parts .2, s .pre .0, s .pre .1, s .pre .2)
 
 same-length : tie.Need-same-length
 same-length c = search needs
@@ -64,11 +104,25 @@ same-length-3 c = search needs
 same-length-4 : tie.Need-same-length-4
 same-length-4 c = search needs
 
+same-length-5 : tie.Need-same-length-5
+same-length-5 c = search needs
+
+same-length-6 : tie.Need-same-length-6
+same-length-6 c = search needs
+
 returns : tie.Need-returns
-returns c = let s = c .before .before .before .before .before .before .before .before .before .before .before .before .before .before .before .before .before .before .before .before .before .before .before in
+returns c = let s = c .before .before .before .before .before .before .before .before .before .before .before .before .before .before .before .before .before
+    .before .before .before .before .before .before .before .before .before .before .before .before .before .before .before .before .before in
     let a = s .args in
-    let walk = c .before .before .before .before .before .before .cut-legs-of in (
-      walk .ensures .0 ∙ place-walk (a .work .now) (a .counts .now) (a .flags .now) (a .m) (s .pre .2) (a .k) (s .pre .0) (a .at) (s .pre .1) (a .p) _ _ _ (c .before .before .before .before .before .before .before .before .before .before .before .before .before .before .before .copy-run .ensures) (c .before .before .before .before .before .before .before .before .before .before .before .leg-count .ensures .0),
+    let walk = c .before .before .before .before .before .before .before .before .cut-legs-of in (
+      place-walk (a .work .now) (a .buoys .now) (a .counts .now) (a .flags .now) (a .m) (s .pre .2) (a .k) (s .pre .0) (a .at) (s .pre .1)
+          (a .x) _ _ _ _ _ (walk .result) _ _ _ _
+          (c .before .before .before .before .before .before .before .before .before .before .before .before .before .before .before .before .before .before
+          .before .before .before .before .before .before .copy-run .ensures)
+          (c .before .before .before .before .before .before .before .before .before .before .before .before .before .before .before .before .before .before
+          .before .copy-buoys .ensures)
+          (c .before .before .before .before .before .before .before .before .before .before .before .before .before .before .before .leg-count .ensures .0)
+          (walk .ensures .0),
       walk .ensures .1,
     )
 
@@ -79,15 +133,20 @@ cut-place-spec =
     mul-n
     slice-read-n
     copy-run-requires
+    copy-buoys-requires
     mul-end
     mul-leg-count
     slice-read-leg-count
     leg-count-requires
     slice-reshare-prefix-cut-legs-of
     slice-aggregate-cut-legs-of
+    slice-reshare-prefix-cut-legs-of-2
+    slice-aggregate-cut-legs-of-2
     cut-legs-of-requires
     same-length
     same-length-2
     same-length-3
     same-length-4
+    same-length-5
+    same-length-6
     returns)

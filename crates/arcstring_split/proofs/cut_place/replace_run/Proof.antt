@@ -1,7 +1,7 @@
 -- `replace_run` writes what follows the run after the fresh vertices, and both in the run's place. Assumes nothing.
-use Prim.Native.Nat.{_+_, _-_}
+use Prim.Native.Nat.{_+_, _-_, _*_}
 use native.Mathlib.Omega.{arith}
-use Rattle.arcstring_split.proofs.Runs.{run-replaced}
+use Rattle.arcstring_split.proofs.Replaced.{run-replaced}
 use borrow.Author.Needs.{needs}
 use Rattle.arcstring_split.proofs.cut_place.replace_run.Statement.{statement}
 use Rattle.arcstring_split.proofs.cut_place.replace_run.Tie as tie
@@ -31,9 +31,11 @@ same-length-2 : tie.Need-same-length-2
 same-length-2 c = search needs
 
 returns : tie.Need-returns
-returns c = let s = c .before .before .before .before .before .before .before .before .before .before .before .before in
-    let a = s .args in
-    run-replaced (a .work .now) (a .fresh .now) _ _ (a .at) (a .old) (a .size) (a .total - (a .at + a .old)) (omega arith) (omega arith) (c .before .before .before .before .before .before .before .copy-run .ensures) (c .before .before .copy-run2 .ensures)
+returns c = let a = c .before .before .before .before .before .before .before .before .before .before .before .before .args in
+    let rest = a .total - (a .at + a .old) in
+    run-replaced (a .work .now) (a .fresh .now) _ _ (3 * a .at) (3 * (a .at + a .old)) (3 * a .size) (3 * rest) (3 * (a .size + rest))
+    (omega arith) (omega arith) (omega arith)
+    (c .before .before .before .before .before .before .before .copy-run .ensures) (c .before .before .copy-run2 .ensures)
 
 pub replace-run-spec : {M : Type 1} → statement M
 replace-run-spec =

@@ -1,4 +1,4 @@
--- `insert_point` walks over the legs: the walk that is left, from the points that stand in the list, gives the whole answer. Assumes nothing.
+-- `insert_point` walks over the legs: the walk that is left, from the vertices that stand in the lists, gives the whole answer. Assumes nothing.
 use mathlib.Core.Path.{_≡_, refl, sym, _∙_}
 use Prim.Native.Nat.{_≤_, _+_, _-_, _*_}
 use native.Mathlib.Omega.{arith}
@@ -6,25 +6,34 @@ use lib.ListN.{length}
 use lib.Seq.{length-take-le}
 use borrow.Author.Needs.{needs}
 use borrow.Author.Tests.{not-true, not-false}
-use Rattle.arcstring.specs.Work.{firstOfList}
+use Rattle.arcstring.specs.Points.{placeOf}
 use Rattle.arcstring_split.specs.Insert.{insertPoint, insertWalk}
+use Rattle.arcstring_split.proofs.Inserted.{firstVertices}
 use Rattle.arcstring_split.proofs.InsertWalks.{walk-begin, walk-past, walk-full, walk-on, walk-end}
 use Rattle.arcstring_split.proofs.insert.insert_point.Statement.{statement}
 use Rattle.arcstring_split.proofs.insert.insert_point.Tie as tie
 
 abbrev Inv-loop : tie.InvT-loop
-Inv-loop work₀ n closed p legs m₀ k₀ i₀ work m k i =
-    (i ≤ legs) × (k + (legs - i) ≤ m) × (m ≤ 1024) × (length work ≡ length work₀) × (insertWalk p k (legs - i) (firstOfList m work) ≡ insertPoint closed p (firstOfList n work₀))
+Inv-loop work₀ buoys₀ n closed x legs m₀ k₀ i₀ work buoys m k i =
+    (i ≤ legs) × (k + (legs - i) ≤ m) × (m ≤ 1024) × (length work ≡ length work₀) × (length buoys ≡ length buoys₀) ×
+    (insertWalk placeOf x k (legs - i) (firstVertices m work buoys) ≡ insertPoint placeOf closed x (firstVertices n work₀ buoys₀))
 
 abbrev μ-loop : tie.MeasureT-loop
-μ-loop work₀ n closed p legs m₀ k₀ i₀ work m k i = legs - i
+μ-loop work₀ buoys₀ n closed x legs m₀ k₀ i₀ work buoys m k i = legs - i
 
 leg-count-requires : tie.Need-leg-count-requires Inv-loop μ-loop
 leg-count-requires c κs = omega arith
 
 loop-holds : tie.Need-loop-holds Inv-loop μ-loop
-loop-holds c = let s = c .before .before in
-    (omega arith, omega arith, s .pre .1, refl, walk-begin (s .args .p) (s .args .work .now) (s .args .n) _ (s .args .closed) (omega arith) (c .leg-count .ensures .0))
+loop-holds c = let s = c .before .before .before in (
+  omega arith,
+  omega arith,
+  s .pre .1,
+  refl,
+  refl,
+  walk-begin (s .args .x) (s .args .work .now) (s .args .buoys .now) (s .args .n) _
+      (s .args .closed) (omega arith) (omega arith) (c .leg-count .ensures .0),
+)
 
 add-i : tie.Need-add-i Inv-loop μ-loop
 add-i c = omega arith
@@ -52,19 +61,37 @@ loop-less c = omega arith
 
 loop-again : tie.Need-loop-again Inv-loop μ-loop
 loop-again c = let d = c .before .before .before .before .before in
-    let s = d .before .before .before in
-    (omega arith, omega arith, d .loop .inv .2, d .loop .inv .3, walk-past (s .args .p) (d .loop .work) (d .loop .m) (d .loop .k) _ (d .loop .i) _ (d .loop .inv .4) _ _ (c .before .before .before .before .loop-test .taken) (omega arith) (omega arith) (c .before .before .leg-at .ensures) (c .before .along-leg .ensures) (not-true _ (c .if1 .taken)))
+    let s = d .before .before .before .before in (
+      omega arith,
+      omega arith,
+      d .loop .inv .2,
+      d .loop .inv .3,
+      d .loop .inv .4,
+      walk-past (s .args .x) (d .loop .work) (d .loop .buoys) (d .loop .m)
+          (d .loop .k) _ (d .loop .i) _ (d .loop .inv .5) _ _ (c .before .before .before .before .loop-test .taken) (omega arith) (omega arith)
+          (omega arith) (c .before .before .leg-at .ensures) (c .before .along-leg .ensures) (not-true _ (c .if1 .taken)),
+    )
 
 same-length : tie.Need-same-length Inv-loop μ-loop
 same-length c = c .before .before .before .before .before .before .loop .inv .3
 
+same-length-2 : tie.Need-same-length-2 Inv-loop μ-loop
+same-length-2 c = c .before .before .before .before .before .before .loop .inv .4
+
 returns : tie.Need-returns Inv-loop μ-loop
 returns c = let d = c .before .before .before .before .before .before in
-    let s = d .before .before .before in
-    (walk-full (s .args .p) (d .loop .work) (d .loop .m) (d .loop .k) _ (d .loop .i) _ (d .loop .inv .4) _ _ (c .before .before .before .before .before .loop-test .taken) (omega arith) (omega arith) (c .before .before .before .leg-at .ensures) (c .before .before .along-leg .ensures) (not-false _ (c .before .if1 .left)) (c .if2 .taken), omega arith)
+    let s = d .before .before .before .before in (
+      walk-full (s .args .x) (d .loop .work) (d .loop .buoys) (d .loop .m) (d .loop .k) _ (d .loop .i) _ (d .loop .inv .5) _ _
+          (c .before .before .before .before .before .loop-test .taken) (omega arith) (omega arith) (omega arith)
+          (c .before .before .before .leg-at .ensures) (c .before .before .along-leg .ensures) (not-false _ (c .before .if1 .left)) (c .if2 .taken),
+      omega arith,
+    )
 
 insert-vertex-requires : tie.Need-insert-vertex-requires Inv-loop μ-loop
 insert-vertex-requires c κs = omega arith
+
+insert-buoy-requires : tie.Need-insert-buoy-requires Inv-loop μ-loop
+insert-buoy-requires c κs = omega arith
 
 add-m : tie.Need-add-m Inv-loop μ-loop
 add-m c = omega arith
@@ -76,19 +103,32 @@ loop-less-2 : tie.Need-loop-less-2 Inv-loop μ-loop
 loop-less-2 c = omega arith
 
 loop-again-2 : tie.Need-loop-again-2 Inv-loop μ-loop
-loop-again-2 c = let a = c .before .before .before .before in
+loop-again-2 c = let a = c .before .before .before .before .before .before .before .before in
     let d = a .before .before .before .before .before .before in
-    let s = d .before .before .before in
-    let put = c .before .before .insert-vertex in
-    (omega arith, omega arith, omega arith, put .kept .0 ∙ d .loop .inv .3, walk-on (s .args .p) (d .loop .work) (d .loop .m) (d .loop .k) _ (d .loop .i) _ (d .loop .inv .4) _ _ (a .before .before .before .before .before .loop-test .taken) (omega arith) (omega arith) (a .before .before .before .leg-at .ensures) (a .before .before .along-leg .ensures) _ (not-false _ (a .before .if1 .left)) (omega arith) (omega arith) (put .ensures))
+    let s = d .before .before .before .before in
+    let put = c .before .before .before .before .before .before .insert-vertex in
+    let likewise = c .before .before .insert-buoy in (
+      omega arith,
+      omega arith,
+      omega arith,
+      put .kept .0 ∙ d .loop .inv .3,
+      likewise .kept .0 ∙ d .loop .inv .4,
+      walk-on (s .args .x) (d .loop .work)
+          (d .loop .buoys) (d .loop .m) (d .loop .k) _ (d .loop .i) _ (d .loop .inv .5) _ _ (a .before .before .before .before .before .loop-test .taken)
+          (omega arith) (omega arith) (omega arith) (a .before .before .before .leg-at .ensures) (a .before .before .along-leg .ensures) _ _
+          (not-false _ (a .before .if1 .left)) (omega arith) (d .loop .inv .3 ∙ s .pre .2) (d .loop .inv .4 ∙ s .pre .3) (put .ensures) (likewise .ensures),
+    )
 
-same-length-2 : tie.Need-same-length-2 Inv-loop μ-loop
-same-length-2 c = c .before .loop .inv .3
+same-length-3 : tie.Need-same-length-3 Inv-loop μ-loop
+same-length-3 c = c .before .loop .inv .3
+
+same-length-4 : tie.Need-same-length-4 Inv-loop μ-loop
+same-length-4 c = c .before .loop .inv .4
 
 returns-2 : tie.Need-returns-2 Inv-loop μ-loop
 returns-2 c = let d = c .before in
-    let s = d .before .before .before in
-    (walk-end (s .args .p) (d .loop .work) (d .loop .m) (d .loop .k) _ (d .loop .i) _ (d .loop .inv .4) (c .loop-test .left), d .loop .inv .2)
+    let s = d .before .before .before .before in
+    (walk-end (s .args .x) (d .loop .work) (d .loop .buoys) (d .loop .m) (d .loop .k) _ (d .loop .i) _ (d .loop .inv .5) (c .loop-test .left), d .loop .inv .2)
 
 pub insert-point-spec : {M : Type 1} → statement M
 insert-point-spec =
@@ -108,11 +148,14 @@ insert-point-spec =
     loop-less
     loop-again
     same-length
+    same-length-2
     returns
     insert-vertex-requires
+    insert-buoy-requires
     add-m
     add-k-2
     loop-less-2
     loop-again-2
-    same-length-2
+    same-length-3
+    same-length-4
     returns-2)

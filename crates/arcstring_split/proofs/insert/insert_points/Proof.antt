@@ -1,32 +1,37 @@
--- `insert_points` puts in each of the points in turn: those that are left, put in among the points that stand in the list, give the whole answer. Assumes nothing.
+-- `insert_points` puts in each of the vertices in turn: those left, put in among the vertices that stand in the lists, give the whole answer. Assumes nothing.
 use mathlib.Core.Path.{_≡_, refl, _∙_}
 use Prim.Native.Nat.{_≤_, _-_}
 use native.Mathlib.Omega.{arith}
 use lib.ListN.{length, drop}
 use borrow.Author.Needs.{needs}
-use Rattle.arcstring.specs.Points.{points}
-use Rattle.arcstring.specs.Work.{firstOfList}
+use Rattle.arcstring.specs.Points.{numbered, placeOf, points}
 use Rattle.arcstring_split.specs.Steps.{forEach}
-use Rattle.arcstring_split.specs.Insert.{insertPoint}
+use Rattle.arcstring_split.specs.Insert.{insertPoint, inserted}
+use Rattle.arcstring_split.proofs.Inserted.{firstVertices}
 use Rattle.arcstring_split.proofs.Inserts.{points-end, points-stop, points-on, points-longer, held-at-most}
 use Rattle.arcstring_split.proofs.insert.insert_points.Statement.{statement}
 use Rattle.arcstring_split.proofs.insert.insert_points.Tie as tie
 
 abbrev Inv-loop : tie.InvT-loop
-Inv-loop work₀ n closed extra count m₀ i₀ work m i =
-    (i ≤ count) × (1 ≤ m) × (m ≤ 1024) × (length work ≡ length work₀) × (forEach (insertPoint closed) (drop i (points extra)) (firstOfList m work) ≡ forEach (insertPoint closed) (points extra) (firstOfList n work₀))
+Inv-loop work₀ buoys₀ n closed extra extra-buoys m₀ i₀ work buoys m i =
+    (i ≤ length extra-buoys) × (1 ≤ m) × (m ≤ 1024) × (length work ≡ length work₀) × (length buoys ≡ length buoys₀) ×
+    (forEach (insertPoint placeOf closed) (drop i (numbered (points extra) extra-buoys)) (firstVertices m work buoys) ≡ inserted placeOf closed
+    (numbered (points extra) extra-buoys) (firstVertices n work₀ buoys₀))
 
 abbrev μ-loop : tie.MeasureT-loop
-μ-loop work₀ n closed extra count m₀ i₀ work m i = count - i
+μ-loop work₀ buoys₀ n closed extra extra-buoys m₀ i₀ work buoys m i = length extra-buoys - i
 
 loop-holds : tie.Need-loop-holds Inv-loop μ-loop
-loop-holds c = let s = c .before .before in (omega arith, s .pre .0, s .pre .1, refl, refl)
+unfolding inserted
+loop-holds c = let s = c .before .before .before .before in (omega arith, s .pre .0, s .pre .1, refl, refl, refl)
 
-vertex-at-requires : tie.Need-vertex-at-requires Inv-loop μ-loop
-vertex-at-requires c κs = omega arith
+numbered-at-requires : tie.Need-numbered-at-requires Inv-loop μ-loop
+numbered-at-requires c κs = omega arith
 
 insert-point-requires : tie.Need-insert-point-requires Inv-loop μ-loop
-insert-point-requires c κs = let d = c .before .before .before in (d .loop .inv .1, d .loop .inv .2, omega arith)
+insert-point-requires c κs = let d = c .before .before .before .before in
+    let s = d .before .before .before .before .before in
+    (d .loop .inv .1, d .loop .inv .2, d .loop .inv .3 ∙ s .pre .2, d .loop .inv .4 ∙ s .pre .3)
 
 enum-known-inserted : tie.Need-enum-known-inserted Inv-loop μ-loop
 enum-known-inserted c = search needs
@@ -35,13 +40,23 @@ enum-told : tie.Need-enum-told Inv-loop μ-loop
 enum-told c = search needs
 
 same-length : tie.Need-same-length Inv-loop μ-loop
-same-length c = c .before .before .before .before .insert-point .kept .0 ∙ c .before .before .before .before .before .before .before .before .loop .inv .3
+same-length c = let f = c .before .before .before .before .before .before in
+    f .insert-point .kept .0 ∙ f .before .before .before .before .before .loop .inv .3
+
+same-length-2 : tie.Need-same-length-2 Inv-loop μ-loop
+same-length-2 c = let f = c .before .before .before .before .before .before in
+    f .insert-point .kept .1 .0 ∙ f .before .before .before .before .before .loop .inv .4
 
 returns : tie.Need-returns Inv-loop μ-loop
-returns c = let f = c .before .before .before .before in
-    let d = f .before .before .before .before in
-    let s = d .before .before .before in
-    (points-stop (s .args .closed) (s .args .extra .now) (s .args .count) (s .pre .3) (d .loop .work) (d .loop .m) (d .loop .i) _ (d .loop .inv .4) _ _ _ (f .before .before .before .loop-test .taken) (f .before .vertex-at .ensures) (f .insert-point .ensures .0) _ (c .enum-told .given .1), f .insert-point .ensures .1)
+returns c = let f = c .before .before .before .before .before .before in
+    let d = f .before .before .before .before .before in
+    let s = d .before .before .before .before .before in (
+      points-stop (s .args .closed) (s .args .extra .now) (s .args .extra-buoys .now) (s .pre .4) (d .loop .work) (d .loop .buoys) (d .loop .m)
+          (d .loop .i) _ (d .loop .inv .5) _ _ (f .insert-point .last .0) (f .insert-point .last .1 .0)
+          (f .before .before .before .before .loop-test .taken) (f .before .before .before .numbered-at .ensures) (f .insert-point .ensures .0) _
+          (c .enum-told .given .1),
+      f .insert-point .ensures .1,
+    )
 
 add-i : tie.Need-add-i Inv-loop μ-loop
 add-i c = omega arith
@@ -50,22 +65,40 @@ loop-less : tie.Need-loop-less Inv-loop μ-loop
 loop-less c = omega arith
 
 loop-again : tie.Need-loop-again Inv-loop μ-loop
-loop-again c = let f = c .before .before .before .before .before in
-    let d = f .before .before .before .before in
-    let s = d .before .before .before in
+loop-again c = let f = c .before .before .before .before .before .before .before in
+    let d = f .before .before .before .before .before in
+    let s = d .before .before .before .before .before in
     let told = c .before .inserted .given .1 in
     let most = held-at-most _ _ 1024 told (f .insert-point .ensures .1) in
     let kept = f .insert-point .kept .0 ∙ d .loop .inv .3 in
-    let longer = points-longer (s .args .closed) (s .args .extra .now) (s .args .count) (s .pre .3) (d .loop .work) (d .loop .m) (d .loop .i) _ (d .loop .inv .4) _ _ _ (f .before .before .before .loop-test .taken) (f .before .vertex-at .ensures) (f .insert-point .ensures .0) _ told (omega arith) (omega arith) in
-    (omega arith, omega arith, most, kept, points-on (s .args .closed) (s .args .extra .now) (s .args .count) (s .pre .3) (d .loop .work) (d .loop .m) (d .loop .i) _ (d .loop .inv .4) _ _ _ (f .before .before .before .loop-test .taken) (f .before .vertex-at .ensures) (f .insert-point .ensures .0) _ told)
+    let kept' = f .insert-point .kept .1 .0 ∙ d .loop .inv .4 in
+    let longer = points-longer (s .args .closed) (s .args .extra .now) (s .args .extra-buoys .now) (s .pre .4) (d .loop .work) (d .loop .buoys)
+    (d .loop .m) (d .loop .i) _ (d .loop .inv .5) _ _ (f .insert-point .last .0) (f .insert-point .last .1 .0)
+    (f .before .before .before .before .loop-test .taken) (f .before .before .before .numbered-at .ensures) (f .insert-point .ensures .0) _ told
+    (omega arith) (omega arith) (omega arith) (omega arith) in (
+      omega arith,
+      omega arith,
+      most,
+      kept,
+      kept',
+      points-on (s .args .closed) (s .args .extra .now) (s .args .extra-buoys .now) (s .pre .4)
+          (d .loop .work) (d .loop .buoys) (d .loop .m) (d .loop .i) _ (d .loop .inv .5) _ _ (f .insert-point .last .0) (f .insert-point .last .1 .0)
+          (f .before .before .before .before .loop-test .taken) (f .before .before .before .numbered-at .ensures) (f .insert-point .ensures .0) _ told,
+    )
 
-same-length-2 : tie.Need-same-length-2 Inv-loop μ-loop
-same-length-2 c = c .before .loop .inv .3
+same-length-3 : tie.Need-same-length-3 Inv-loop μ-loop
+same-length-3 c = c .before .loop .inv .3
+
+same-length-4 : tie.Need-same-length-4 Inv-loop μ-loop
+same-length-4 c = c .before .loop .inv .4
 
 returns-2 : tie.Need-returns-2 Inv-loop μ-loop
 returns-2 c = let d = c .before in
-    let s = d .before .before .before in
-    (points-end (s .args .closed) (s .args .extra .now) (s .args .count) (s .pre .3) (d .loop .work) (d .loop .m) (d .loop .i) _ (d .loop .inv .4) (c .loop-test .left), d .loop .inv .2)
+    let s = d .before .before .before .before .before in (
+      points-end (s .args .closed) (s .args .extra .now) (s .args .extra-buoys .now) (s .pre .4) (d .loop .work) (d .loop .buoys) (d .loop .m)
+          (d .loop .i) _ (d .loop .inv .5) (c .loop-test .left),
+      d .loop .inv .2,
+    )
 
 pub insert-points-spec : {M : Type 1} → statement M
 insert-points-spec =
@@ -74,14 +107,16 @@ insert-points-spec =
     Inv-loop
     μ-loop
     loop-holds
-    vertex-at-requires
+    numbered-at-requires
     insert-point-requires
     enum-known-inserted
     enum-told
     same-length
+    same-length-2
     returns
     add-i
     loop-less
     loop-again
-    same-length-2
+    same-length-3
+    same-length-4
     returns-2)

@@ -1,4 +1,4 @@
--- `build_piece` builds the string that the points make, by whether their ends meet. Assumes nothing.
+-- `build_piece` builds the string that the vertices make, by whether their ends meet, and keeps the first of their numbers. Assumes nothing.
 use mathlib.Core.Path.{sym, _∙_}
 use Rattle.arcstring_split.proofs.Halves.{closed-piece, open-piece}
 use borrow.Author.Needs.{needs}
@@ -14,27 +14,46 @@ sub-build-closed c = search needs
 build-closed-requires : tie.Need-build-closed-requires
 build-closed-requires c κs = search needs
 
-sub-t6 : tie.Need-sub-t6
-sub-t6 c = search needs
+sub-copy-buoys : tie.Need-sub-copy-buoys
+sub-copy-buoys c = search needs
+
+copy-buoys-requires : tie.Need-copy-buoys-requires
+copy-buoys-requires c κs = search needs
+
+sub-t8 : tie.Need-sub-t8
+sub-t8 c = search needs
 
 same-length : tie.Need-same-length
 same-length c = search needs
 
+same-length-2 : tie.Need-same-length-2
+same-length-2 c = search needs
+
 returns : tie.Need-returns
-returns c = let d = c .before .before .before .before .before in
-    let s = d .before .before .before in
-    closed-piece (s .args .v .now) (s .args .n) _ _ (s .pre .0) (s .pre .1) (sym (d .ends-meet .ensures) ∙ c .before .before .before .before .if1 .taken) (c .before .before .build-closed .ensures)
+returns c = let d = c .before .before .before .before .before .before in
+    let m = d .before .before .before in
+    let s = m .before .before .before .before .before in
+    closed-piece (s .args .v .now) (s .args .buoys .now) _ _ _ _ (s .pre .0) (s .pre .1)
+    (sym (m .ends-meet .ensures) ∙ d .before .before .if1 .taken) (d .build-closed .ensures) (c .before .before .copy-buoys .ensures)
 
 build-open-requires : tie.Need-build-open-requires
 build-open-requires c κs = search needs
 
-same-length-2 : tie.Need-same-length-2
-same-length-2 c = search needs
+copy-buoys-requires-2 : tie.Need-copy-buoys-requires-2
+copy-buoys-requires-2 c κs = search needs
+
+same-length-3 : tie.Need-same-length-3
+same-length-3 c = search needs
+
+same-length-4 : tie.Need-same-length-4
+same-length-4 c = search needs
 
 returns-2 : tie.Need-returns-2
-returns-2 c = let d = c .before .before .before .before .before in
-    let s = d .before .before .before in
-    open-piece (s .args .v .now) (s .args .n) _ _ (s .pre .0) (s .pre .1) (sym (d .ends-meet .ensures) ∙ c .before .before .before .before .if1 .left) (c .before .before .build-open .ensures)
+returns-2 c = let d = c .before .before .before .before .before .before in
+    let m = d .before .before .before in
+    let s = m .before .before .before .before .before in
+    open-piece (s .args .v .now) (s .args .buoys .now) _ _ _ _ (s .pre .0) (s .pre .1)
+    (sym (m .ends-meet .ensures) ∙ d .before .before .if1 .left) (d .build-open .ensures) (c .before .before .copy-buoys2 .ensures)
 
 pub build-piece-spec : {M : Type 1} → statement M
 build-piece-spec =
@@ -43,9 +62,14 @@ build-piece-spec =
     ends-meet-requires
     sub-build-closed
     build-closed-requires
-    sub-t6
+    sub-copy-buoys
+    copy-buoys-requires
+    sub-t8
     same-length
+    same-length-2
     returns
     build-open-requires
-    same-length-2
+    copy-buoys-requires-2
+    same-length-3
+    same-length-4
     returns-2)

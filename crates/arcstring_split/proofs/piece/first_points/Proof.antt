@@ -1,4 +1,5 @@
--- `first_points` writes the vertices up to the start of leg i, and the point after them. Assumes nothing.
+-- `first_points` writes the vertices up to the start of leg i, and the point after them, floats and numbers alike. Assumes nothing.
+use native.Mathlib.Omega.{arith}
 use Rattle.arcstring_split.proofs.Halves.{first-written}
 use borrow.Author.Needs.{needs}
 use Rattle.arcstring_split.proofs.piece.first_points.Statement.{statement}
@@ -10,18 +11,40 @@ add-copy-run c = search needs
 copy-run-requires : tie.Need-copy-run-requires
 copy-run-requires c κs = search needs
 
+add-copy-buoys : tie.Need-add-copy-buoys
+add-copy-buoys c = search needs
+
+copy-buoys-requires : tie.Need-copy-buoys-requires
+copy-buoys-requires c κs = search needs
+
 add-put-vertex : tie.Need-add-put-vertex
 add-put-vertex c = search needs
 
 put-vertex-requires : tie.Need-put-vertex-requires
 put-vertex-requires c κs = search needs
 
+add-out-buoys : tie.Need-add-out-buoys
+add-out-buoys c = search needs
+
+mul-out-buoys : tie.Need-mul-out-buoys
+mul-out-buoys c = search needs
+
+slice-write-out-buoys : tie.Need-slice-write-out-buoys
+slice-write-out-buoys c = search needs
+
 same-length : tie.Need-same-length
 same-length c = search needs
 
+same-length-2 : tie.Need-same-length-2
+same-length-2 c = search needs
+
 returns : tie.Need-returns
-returns c = let s = c .before .before .before .before .before .before .before .before .before .before in
-    first-written (s .args .v .now) _ _ _ (s .args .i) (s .args .p) (s .pre .0) (c .before .before .before .before .before .before .copy-run .ensures) (c .before .before .put-vertex .ensures)
+returns c = let d = c .before .before .before .before .before .before in
+    let e = d .before .before .before .before in
+    let s = e .before .before .before .before .before .before in
+    let a = s .args in
+    first-written (a .v .now) (a .buoys .now) (a .i) (a .x) (s .pre .0) (s .pre .1) _ _ _ _ _ (omega arith)
+    (e .copy-run .ensures) (d .copy-buoys .ensures) (c .before .before .put-vertex .ensures)
 
 pub first-points-spec : {M : Type 1} → statement M
 first-points-spec =
@@ -29,7 +52,13 @@ first-points-spec =
     (tie.spec
     add-copy-run
     copy-run-requires
+    add-copy-buoys
+    copy-buoys-requires
     add-put-vertex
     put-vertex-requires
+    add-out-buoys
+    mul-out-buoys
+    slice-write-out-buoys
     same-length
+    same-length-2
     returns)

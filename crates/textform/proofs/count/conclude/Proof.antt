@@ -34,7 +34,14 @@ slice-aggregate-count-built-2 c =
     sym (length-take-le _ _ (omega arith))
 
 count-built-requires : tie.Need-count-built-requires
-count-built-requires c κs = search needs
+count-built-requires c κs =
+    let start = c .before .before .before .before .before .before .before in
+    let sound = start .pre .0 in
+    let a-most = sound .a in
+    let b-most = sound .b in (
+      omega (arith, length-take-le (start .args .r .a) (start .args .a .now) (omega arith)),
+      omega (arith, length-take-le (start .args .r .b) (start .args .b .now) (omega arith)),
+    )
 
 enum-known-outcome : tie.Need-enum-known-outcome
 enum-known-outcome c = search needs

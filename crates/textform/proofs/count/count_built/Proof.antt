@@ -6,11 +6,11 @@ use Rattle.textform.proofs.BuiltStrings.{BuiltHere, build-refused, buil
 use Rattle.textform.proofs.count.count_built.Statement.{statement}
 use Rattle.textform.proofs.count.count_built.Tie as tie
 
-slice-aggregate-build : tie.Need-slice-aggregate-build
-slice-aggregate-build c = search needs
+slice-aggregate-build-plain : tie.Need-slice-aggregate-build-plain
+slice-aggregate-build-plain c = search needs
 
-build-requires : tie.Need-build-requires
-build-requires c κs = search needs
+build-plain-requires : tie.Need-build-plain-requires
+build-plain-requires c κs = search needs
 
 enum-known-built : tie.Need-enum-known-built
 enum-known-built c = search needs
@@ -21,11 +21,11 @@ number-requires c κs = search needs
 enum-known-built-2 : tie.Need-enum-known-built-2
 enum-known-built-2 c = search needs
 
-slice-aggregate-build-2 : tie.Need-slice-aggregate-build-2
-slice-aggregate-build-2 c = search needs
+slice-aggregate-build-plain-2 : tie.Need-slice-aggregate-build-plain-2
+slice-aggregate-build-plain-2 c = search needs
 
-build-requires-2 : tie.Need-build-requires-2
-build-requires-2 c κs = search needs
+build-plain-requires-2 : tie.Need-build-plain-requires-2
+build-plain-requires-2 c κs = search needs
 
 enum-known-other : tie.Need-enum-known-other
 enum-known-other c = search needs
@@ -39,14 +39,14 @@ enum-known-other-2 c = search needs
 -- the first string, as it stands once it is built
 first-here : (c : tie.After-built2)
     → BuiltHere (c .before .before .before .before .before .before .before .args .a .now) (c .built2 .given .0 .0) (c .built2 .given .0 .1 .0)
-    (c .before .before .before .build .last .1 .0)
-first-here c = let b = c .before .before .before .build in build-stands _ _ _ _ (b .ensures .0) (b .ensures .1) _ _ (c .built2 .given .1)
+    (c .before .before .before .build-plain .last .1 .0)
+first-here c = let b = c .before .before .before .build-plain in build-stands _ _ _ _ (b .ensures .0) (b .ensures .1) _ _ (c .built2 .given .1)
 
 -- and the second
 second-here : (c : tie.After-other2)
     → BuiltHere (c .before .before .before .before .before .before .before .before .before .before .before .before .before .args .b .now)
-    (c .other2 .given .0 .0) (c .other2 .given .0 .1 .0) (c .before .before .before .build2 .last .1 .0)
-second-here c = let b = c .before .before .before .build2 in build-stands _ _ _ _ (b .ensures .0) (b .ensures .1) _ _ (c .other2 .given .1)
+    (c .other2 .given .0 .0) (c .other2 .given .0 .1 .0) (c .before .before .before .build-plain2 .last .1 .0)
+second-here c = let b = c .before .before .before .build-plain2 in build-stands _ _ _ _ (b .ensures .0) (b .ensures .1) _ _ (c .other2 .given .1)
 
 mul-n-end : tie.Need-mul-n-end
 mul-n-end c = let h = first-here (c .before .before .before .before .before .before .before) .few in omega arith
@@ -78,7 +78,7 @@ returns c =
     let b = built .before .before .before in
     let a = b .before .before .before .before .args in
     first-refused (a .a .now) (a .b .now) (built .built .given .0 .0) _ (c .number .ensures)
-    (build-refused _ _ _ _ (b .build .ensures .0) (b .build .ensures .1) _ (built .built .given .1))
+    (build-refused _ _ _ _ (b .build-plain .ensures .0) (b .build-plain .ensures .1) _ (built .built .given .1))
 
 returns-2 : tie.Need-returns-2
 returns-2 c =
@@ -87,7 +87,7 @@ returns-2 c =
     let built = b .before .before .before in
     let a = built .before .before .before .before .before .before .before .args in
     second-refused (a .a .now) (a .b .now) (other .other .given .0 .0) _ (c .number2 .ensures) (first-here built .accepted)
-    (build-refused _ _ _ _ (b .build2 .ensures .0) (b .build2 .ensures .1) _ (other .other .given .1))
+    (build-refused _ _ _ _ (b .build-plain2 .ensures .0) (b .build-plain2 .ensures .1) _ (other .other .given .1))
 
 returns-3 : tie.Need-returns-3
 returns-3 c =
@@ -102,13 +102,13 @@ pub count-built-spec : {M : Type 1} → statement M
 count-built-spec =
     tie.close
     (tie.spec
-    slice-aggregate-build
-    build-requires
+    slice-aggregate-build-plain
+    build-plain-requires
     enum-known-built
     number-requires
     enum-known-built-2
-    slice-aggregate-build-2
-    build-requires-2
+    slice-aggregate-build-plain-2
+    build-plain-requires-2
     enum-known-other
     number-requires-2
     enum-known-other-2

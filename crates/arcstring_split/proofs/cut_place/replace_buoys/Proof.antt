@@ -1,0 +1,52 @@
+-- `replace_buoys` writes the numbers that follow the run after the fresh ones, and both in the run's place. Assumes nothing.
+use mathlib.Core.Path.{refl}
+use Prim.Native.Nat.{_+_, _-_}
+use native.Mathlib.Omega.{arith}
+use Rattle.arcstring_split.proofs.Replaced.{run-replaced}
+use borrow.Author.Needs.{needs}
+use Rattle.arcstring_split.proofs.cut_place.replace_buoys.Statement.{statement}
+use Rattle.arcstring_split.proofs.cut_place.replace_buoys.Tie as tie
+
+add-rest : tie.Need-add-rest
+add-rest c = search needs
+
+sub-rest : tie.Need-sub-rest
+sub-rest c = search needs
+
+add-copy-buoys : tie.Need-add-copy-buoys
+add-copy-buoys c = search needs
+
+copy-buoys-requires : tie.Need-copy-buoys-requires
+copy-buoys-requires c κs = search needs
+
+add-copy-buoys-2 : tie.Need-add-copy-buoys-2
+add-copy-buoys-2 c = search needs
+
+copy-buoys-requires-2 : tie.Need-copy-buoys-requires-2
+copy-buoys-requires-2 c κs = search needs
+
+same-length : tie.Need-same-length
+same-length c = search needs
+
+same-length-2 : tie.Need-same-length-2
+same-length-2 c = search needs
+
+returns : tie.Need-returns
+returns c = let a = c .before .before .before .before .before .before .before .before .before .before .before .before .args in
+    let rest = a .total - (a .at + a .old) in
+    run-replaced (a .buoys .now) (a .fresh .now) _ _ (a .at) (a .at + a .old) (a .size) rest (a .size + rest) (omega arith) (omega arith) refl
+    (c .before .before .before .before .before .before .before .copy-buoys .ensures) (c .before .before .copy-buoys2 .ensures)
+
+pub replace-buoys-spec : {M : Type 1} → statement M
+replace-buoys-spec =
+    tie.close
+    (tie.spec
+    add-rest
+    sub-rest
+    add-copy-buoys
+    copy-buoys-requires
+    add-copy-buoys-2
+    copy-buoys-requires-2
+    same-length
+    same-length-2
+    returns)
