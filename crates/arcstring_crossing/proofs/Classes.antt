@@ -1,19 +1,34 @@
 -- The class of a pair of legs, and what a grazing pair keeps, at each outcome of the tests. Assumes nothing.
 use mathlib.Core.Path.{_≡_, sym, ap, ap₂, _∙_}
-use mathlib.Core.Bool.{true, false}
+use mathlib.Core.Bool.{Bool, true, false, _||_}
 use mathlib.Core.List.{List}
+use Prim.Native.Nat.{ℕ}
 use lib.Ieee.{Float}
 use Rattle.sphericalpoint.specs.declared.SphericalPoint.{SphericalPoint}
-use Rattle.sphericalpoint.specs.Vector.{xyzNeg, xyzCross}
+use Rattle.sphericalpoint.specs.Vector.{xyzNeg, xyzCross, xyzEq}
+use Rattle.arcstring.specs.Answer.{firstOf}
+use Rattle.arcstring.specs.Check.{pointCheck}
 use Rattle.arcstring_crossing.specs.declared.crossing.Pair.{Pair}
 use Rattle.arcstring_crossing.specs.declared.crossing.Pair.the-variants.{Clean, End, Grazing, Apart}
 use Rattle.arcstring_crossing.specs.declared.crossing.Outcome.{Outcome}
 use Rattle.arcstring_crossing.specs.declared.crossing.Outcome.the-variants.{Kept, Dropped, None}
 use Rattle.arcstring_crossing.specs.declared.crossing.Plane.{Plane}
 use Rattle.arcstring_crossing.specs.Plane.{planeLeg, planeOf, planeSides}
+use Rattle.arcstring_crossing.specs.Crossing.{normal, legCheck}
 use Rattle.arcstring_crossing.specs.Crossing.{Leg, meeting, sideFrom, sideTo, sideValues, pairOf, grazes, isAbove, isBelow, signNegative, signPositive, someSide, everySide, atEnd, keptOrDropped, grazingOutcome, endOrClean, classAt}
 
+-- a leg is checked at its start, then at its end
+pub leg-checked : (l : Leg) (u v : SphericalPoint) (m n r : ℕ) → u ≡ l .from → m ≡ pointCheck u → v ≡ l .to → n ≡ pointCheck v → r ≡ firstOf m n
+    → r ≡ legCheck l
+unfolding legCheck
+leg-checked l u v m n r h i j k e = rw (e, i, k, h, j)
+
 module _ (p : SphericalPoint) (a b : Leg) where
+  pub end-tested : (q r s t : Bool) → q ≡ xyzEq p (a .from) → r ≡ xyzEq p (a .to) → s ≡ xyzEq p (b .from) → t ≡ xyzEq p (b .to)
+      → (((q || r) || s) || t) ≡ atEnd p a b
+  unfolding atEnd
+  end-tested q r s t h i j k = rw (h, i, j, k)
+
   pub end-dropped : atEnd p a b ≡ true → Dropped p ≡ keptOrDropped p a b
   unfolding keptOrDropped
   end-dropped h = rw h
@@ -62,6 +77,12 @@ module _ (t : SphericalPoint) (a b : Leg) (s : List Float) where
   apart-class h i j = rw (h, i, j)
 
 -- ---- by what was worked out for each leg
+
+-- a leg's plane from its parts, each as a call returns it
+pub plane-made : (l : Leg) (u v n m before after : SphericalPoint) → u ≡ l .from → v ≡ l .to → n ≡ xyzCross u v → m ≡ xyzCross u n → before ≡ xyzNeg m
+    → after ≡ xyzCross v n → record { from = u; to = v; normal = n; before = before; after = after } ≡ planeOf l
+unfolding planeOf normal
+plane-made l u v n m before after h i j k e f = rw (e, f, k, j, h, i)
 
 pub plane-leg : (a : Plane) (l : Leg) → a ≡ planeOf l → planeLeg a ≡ l
 unfolding planeOf

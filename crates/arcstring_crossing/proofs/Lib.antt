@@ -16,6 +16,7 @@ mod AcceptedAgain
 mod SamePairs
 mod Classes
 mod Aparts
+mod Bounds
 mod KeptPlanes
 mod Sifted
 mod Walks

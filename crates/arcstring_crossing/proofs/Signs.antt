@@ -126,7 +126,7 @@ every-of-four t (a ∷ b ∷ c ∷ []) h = absurd (omega arith)
 every-of-four t (a ∷ b ∷ c ∷ d ∷ []) h = and-four (t a) (t b) (t c) (t d)
 every-of-four t (a ∷ b ∷ c ∷ d ∷ e ∷ l) h = absurd (omega arith)
 
-pub some-of-four : (t : Float → Bool) (s : List Float) → length s ≡ 4 →
+some-of-four : (t : Float → Bool) (s : List Float) → length s ≡ 4 →
     (((t (getD s 0 nan) || t (getD s 1 nan)) || t (getD s 2 nan)) || t (getD s 3 nan)) ≡ someSide t s
 unfolding someSide
 some-of-four t [] h = absurd (omega arith)
@@ -135,3 +135,15 @@ some-of-four t (a ∷ b ∷ []) h = absurd (omega arith)
 some-of-four t (a ∷ b ∷ c ∷ []) h = absurd (omega arith)
 some-of-four t (a ∷ b ∷ c ∷ d ∷ []) h = or-four (t a) (t b) (t c) (t d)
 some-of-four t (a ∷ b ∷ c ∷ d ∷ e ∷ l) h = absurd (omega arith)
+
+-- the four tests made one by one, as a function makes them that calls the test of one value
+pub every-tested : (t : Float → Bool) (s : List Float) (a b c d : Bool) → length s ≡ 4 → a ≡ t (getD s 0 nan) → b ≡ t (getD s 1 nan) → c ≡ t (getD s 2 nan)
+    → d ≡ t (getD s 3 nan) → (((a && b) && c) && d) ≡ everySide t s
+every-tested t s a b c d h i j k l = rw (i, j, k, l) (every-of-four t s h)
+
+pub some-tested : (t : Float → Bool) (s : List Float) (a b c d : Bool) → length s ≡ 4 → a ≡ t (getD s 0 nan) → b ≡ t (getD s 1 nan) → c ≡ t (getD s 2 nan)
+    → d ≡ t (getD s 3 nan) → (((a || b) || c) || d) ≡ someSide t s
+some-tested t s a b c d h i j k l = rw (i, j, k, l) (some-of-four t s h)
+
+pub four-alike : (a b c d s t u w : Float) → a ≡ s → b ≡ t → c ≡ u → d ≡ w → a ∷ b ∷ c ∷ d ∷ [] ≡ s ∷ t ∷ u ∷ w ∷ []
+four-alike a b c d s t u w h i j k = rw (h, i, j, k)

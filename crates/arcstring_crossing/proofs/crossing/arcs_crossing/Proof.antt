@@ -4,27 +4,26 @@ use Rattle.arcstring.specs.Answer.{answered}
 use Rattle.arcstring.proofs.Answers.{answer-refused-first, answer-accepted-first, both-numbers}
 use Rattle.arcstring_crossing.specs.declared.crossing.Pair.{Pair}
 use Rattle.arcstring_crossing.specs.Crossing.{judged, legCheck, arcsCrossing}
-use borrow.Author.Needs.{needs}
 use Rattle.arcstring_crossing.proofs.crossing.arcs_crossing.Statement.{statement}
 use Rattle.arcstring_crossing.proofs.crossing.arcs_crossing.Tie as tie
 
 check-leg-requires : tie.Need-check-leg-requires
-check-leg-requires c κs = search needs
+check-leg-requires c κs = tt
 
 check-leg-requires-2 : tie.Need-check-leg-requires-2
-check-leg-requires-2 c κs = search needs
+check-leg-requires-2 c κs = tt
 
 first-of-requires : tie.Need-first-of-requires
-first-of-requires c κs = search needs
+first-of-requires c κs = tt
 
 enum-known-checked : tie.Need-enum-known-checked
-enum-known-checked c = search needs
+enum-known-checked c = c .match .keys1
 
 enum-told : tie.Need-enum-told
-enum-told c = search needs
+enum-told c = c .match .keys2
 
 pair-of-requires : tie.Need-pair-of-requires
-pair-of-requires c κs = search needs
+pair-of-requires c κs = tt
 
 returns : tie.Need-returns
 unfolding arcsCrossing

@@ -26,26 +26,26 @@ accepted : (c : tie.After-enum-told) → (legCheck (legOf (c .before .before .be
 accepted c = both-accepted _ (legCheck _) (storedCheck _) (c .enum-told .given .1) (number (c .before .before))
 
 check-leg-requires : tie.Need-check-leg-requires
-check-leg-requires c κs = search needs
+check-leg-requires c κs = tt
 
 check-stored-requires : tie.Need-check-stored-requires
-check-stored-requires c κs = search needs
+check-stored-requires c κs = tt
 
 first-of-requires : tie.Need-first-of-requires
-first-of-requires c κs = search needs
+first-of-requires c κs = tt
 
 enum-known-checked : tie.Need-enum-known-checked
-enum-known-checked c = search needs
+enum-known-checked c = c .match .keys1
 
 returns : tie.Need-returns
 unfolding legCrossings
 returns c = refused-leaves _ _ _ _ (answer-refused-first _ _ (legCheck _) (storedCheck _) _ (c .before .checked .given .1) (number (c .before .before .before)))
 
 enum-told : tie.Need-enum-told
-enum-told c = search needs
+enum-told c = c .match .keys2
 
 leg-string-requires : tie.Need-leg-string-requires
-leg-string-requires c κs = search needs
+leg-string-requires c κs = tt
 
 slice-aggregate-list-two : tie.Need-slice-aggregate-list-two
 slice-aggregate-list-two c = search needs
@@ -55,10 +55,10 @@ list-two-requires c κs = let ok = accepted (c .before .before .before .before) 
     (accepted-as _ _ (c .before .before .before .leg-string .ensures) (ok .0), ok .1)
 
 same-length : tie.Need-same-length
-same-length c = search needs
+same-length c = c .before .before .before .before .list-two .kept .1 .1 .1 .1 .0
 
 same-length-2 : tie.Need-same-length-2
-same-length-2 c = search needs
+same-length-2 c = c .before .before .before .before .list-two .kept .1 .1 .1 .1 .1 .0
 
 returns-2 : tie.Need-returns-2
 unfolding legCrossings

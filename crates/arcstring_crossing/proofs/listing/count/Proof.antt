@@ -7,7 +7,6 @@ use Rattle.arcstring_crossing.specs.declared.listing.Counts.{Counts}
 use Rattle.arcstring_crossing.specs.Listing.{counted}
 use Rattle.arcstring_crossing.proofs.Listings.{both-accepted}
 use Rattle.arcstring_crossing.proofs.Tallies.{tally-counts}
-use borrow.Author.Needs.{needs}
 use Rattle.arcstring_crossing.proofs.listing.count.Statement.{statement}
 use Rattle.arcstring_crossing.proofs.listing.count.Tie as tie
 
@@ -23,25 +22,25 @@ follows : (c : tie.After-enum-told) (x : Answer Counts) → x ≡ unlessRefused 
 follows c x = answer-accepted-first _ (storedCheck _) (storedCheck _) x (c .enum-told .given .1) (number (c .before .before))
 
 check-stored-requires : tie.Need-check-stored-requires
-check-stored-requires c κs = search needs
+check-stored-requires c κs = tt
 
 check-stored-requires-2 : tie.Need-check-stored-requires-2
-check-stored-requires-2 c κs = search needs
+check-stored-requires-2 c κs = tt
 
 first-of-requires : tie.Need-first-of-requires
-first-of-requires c κs = search needs
+first-of-requires c κs = tt
 
 enum-known-checked : tie.Need-enum-known-checked
-enum-known-checked c = search needs
+enum-known-checked c = c .match .keys1
 
 enum-told : tie.Need-enum-told
-enum-told c = search needs
+enum-told c = c .match .keys2
 
 tally-two-requires : tie.Need-tally-two-requires
 tally-two-requires c κs = accepted c
 
 counts-of-requires : tie.Need-counts-of-requires
-counts-of-requires c κs = search needs
+counts-of-requires c κs = tt
 
 returns : tie.Need-returns
 unfolding counted

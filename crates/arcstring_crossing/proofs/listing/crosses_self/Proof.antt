@@ -9,7 +9,6 @@ use Rattle.arcstring.proofs.Answers.{answer-refused, answer-accepted}
 use Rattle.arcstring.proofs.Flat.{count-points}
 use Rattle.arcstring_crossing.specs.Listing.{crossesSelf}
 use Rattle.arcstring_crossing.proofs.Tallies.{tally-kept}
-use borrow.Author.Needs.{needs}
 use Rattle.arcstring_crossing.proofs.listing.crosses_self.Statement.{statement}
 use Rattle.arcstring_crossing.proofs.listing.crosses_self.Tie as tie
 
@@ -21,17 +20,17 @@ follows : (c : tie.After-enum-told) (x : Answer Bool) → x ≡ unlessRefused (s
 follows c x = answer-accepted _ (storedCheck _) x (c .enum-told .given .1) (c .before .before .check-stored .ensures)
 
 check-stored-requires : tie.Need-check-stored-requires
-check-stored-requires c κs = search needs
+check-stored-requires c κs = tt
 
 enum-known-checked : tie.Need-enum-known-checked
-enum-known-checked c = search needs
+enum-known-checked c = c .match .keys1
 
 returns : tie.Need-returns
 unfolding crossesSelf
 returns c = answer-refused _ _ (storedCheck _) _ (c .before .checked .given .1) (c .before .before .before .check-stored .ensures)
 
 enum-told : tie.Need-enum-told
-enum-told c = search needs
+enum-told c = c .match .keys2
 
 tally-self-requires : tie.Need-tally-self-requires
 tally-self-requires c κs = accepted c

@@ -5,7 +5,6 @@ use Rattle.arcstring.specs.Check.{checkNumber, storedCheck}
 use Rattle.arcstring.proofs.Answers.{answer-refused-first, answer-accepted-first, both-numbers}
 use Rattle.arcstring_crossing.specs.Listing.{crossings}
 use Rattle.arcstring_crossing.proofs.Listings.{both-accepted, refused-leaves, leaves-as}
-use borrow.Author.Needs.{needs}
 use Rattle.arcstring_crossing.proofs.listing.crossings.Statement.{statement}
 use Rattle.arcstring_crossing.proofs.listing.crossings.Tie as tie
 
@@ -16,16 +15,16 @@ number : (c : tie.After-first-of) → checkNumber (c .first-of .result)
 number c = c .first-of .ensures ∙ both-numbers (c .before .before .check-stored .ensures) (c .before .check-stored2 .ensures)
 
 check-stored-requires : tie.Need-check-stored-requires
-check-stored-requires c κs = search needs
+check-stored-requires c κs = tt
 
 check-stored-requires-2 : tie.Need-check-stored-requires-2
-check-stored-requires-2 c κs = search needs
+check-stored-requires-2 c κs = tt
 
 first-of-requires : tie.Need-first-of-requires
-first-of-requires c κs = search needs
+first-of-requires c κs = tt
 
 enum-known-checked : tie.Need-enum-known-checked
-enum-known-checked c = search needs
+enum-known-checked c = c .match .keys1
 
 returns : tie.Need-returns
 unfolding crossings
@@ -33,16 +32,16 @@ returns c = refused-leaves _ _ _ _ (answer-refused-first _ _ (storedCheck _) (st
     (number (c .before .before .before)))
 
 enum-told : tie.Need-enum-told
-enum-told c = search needs
+enum-told c = c .match .keys2
 
 list-two-requires : tie.Need-list-two-requires
 list-two-requires c κs = both-accepted _ (storedCheck _) (storedCheck _) (c .before .before .enum-told .given .1) (number (c .before .before .before .before))
 
 same-length : tie.Need-same-length
-same-length c = search needs
+same-length c = c .before .before .before .before .list-two .kept .1 .1 .1 .1 .0
 
 same-length-2 : tie.Need-same-length-2
-same-length-2 c = search needs
+same-length-2 c = c .before .before .before .before .list-two .kept .1 .1 .1 .1 .1 .0
 
 returns-2 : tie.Need-returns-2
 unfolding crossings

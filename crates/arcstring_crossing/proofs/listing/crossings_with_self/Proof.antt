@@ -1,7 +1,6 @@
 -- A refusal of the string, then for want of room, else the listing of its pairs with itself, its points normalised: by one walk where the buffers hold a
 -- point of every pair, else counted first. Assumes nothing.
 use mathlib.Core.Path.{_≡_, sym, ap, _∙_}
-use borrow.Author.Needs.{needs}
 use Rattle.arcstring.specs.Answer.{Answer, unlessRefused}
 use Rattle.arcstring.specs.Splice.{splice}
 use Rattle.arcstring.specs.Check.{checkNumber, storedCheck}
@@ -29,17 +28,17 @@ follows : (c : tie.After-enum-told) (x : Answer Listing) → x ≡ unlessRefused
 follows c x = answer-accepted _ (storedCheck _) x (c .enum-told .given .1) (c .before .before .check-stored .ensures)
 
 check-stored-requires : tie.Need-check-stored-requires
-check-stored-requires c κs = search needs
+check-stored-requires c κs = tt
 
 enum-known-checked : tie.Need-enum-known-checked
-enum-known-checked c = search needs
+enum-known-checked c = c .match .keys1
 
 returns : tie.Need-returns
 unfolding selfCrossings
 returns c = refused-leaves _ _ _ _ (answer-refused _ _ (storedCheck _) _ (c .before .checked .given .1) (c .before .before .before .check-stored .ensures))
 
 enum-told : tie.Need-enum-told
-enum-told c = search needs
+enum-told c = c .match .keys2
 
 holds-self-requires : tie.Need-holds-self-requires
 holds-self-requires c κs = accepted c
@@ -49,13 +48,13 @@ visit-self-requires c κs = let t = c .before .before in
     (accepted (t .before .before), t .before .holds-self .ensures (t .if1 .taken))
 
 counts-of-requires : tie.Need-counts-of-requires
-counts-of-requires c κs = search needs
+counts-of-requires c κs = tt
 
 same-length : tie.Need-same-length
-same-length c = search needs
+same-length c = c .before .before .before .before .before .visit-self .kept .1 .0
 
 same-length-2 : tie.Need-same-length-2
-same-length-2 c = search needs
+same-length-2 c = c .before .before .before .before .before .visit-self .kept .1 .1 .0
 
 returns-2 : tie.Need-returns-2
 unfolding selfCrossings
@@ -69,10 +68,10 @@ tally-self-requires : tie.Need-tally-self-requires
 tally-self-requires c κs = accepted (c .before .before)
 
 check-buffers-requires : tie.Need-check-buffers-requires
-check-buffers-requires c κs = search needs
+check-buffers-requires c κs = c .tally-self .ensures .1
 
 enum-known-room : tie.Need-enum-known-room
-enum-known-room c = search needs
+enum-known-room c = c .match2 .keys1
 
 returns-3 : tie.Need-returns-3
 unfolding selfCrossings
@@ -81,7 +80,7 @@ returns-3 c = let d = c .before .before .before in
     (follows (d .before .before .before .before) _) (c .before .room .given .1)
 
 enum-told-2 : tie.Need-enum-told-2
-enum-told-2 c = search needs
+enum-told-2 c = c .match2 .keys2
 
 write-self-requires : tie.Need-write-self-requires
 write-self-requires c κs = let d = c .before .before .before .before in
@@ -93,13 +92,13 @@ write-self-requires c κs = let d = c .before .before .before .before in
     )
 
 counts-of-requires-2 : tie.Need-counts-of-requires-2
-counts-of-requires-2 c κs = search needs
+counts-of-requires-2 c κs = tt
 
 same-length-3 : tie.Need-same-length-3
-same-length-3 c = search needs
+same-length-3 c = c .before .before .before .before .before .write-self .kept .1 .1 .0
 
 same-length-4 : tie.Need-same-length-4
-same-length-4 c = search needs
+same-length-4 c = c .before .before .before .before .before .write-self .kept .1 .1 .1 .0
 
 returns-4 : tie.Need-returns-4
 unfolding selfCrossings

@@ -1,13 +1,13 @@
 -- The buffers hold a point and a mark of every pair, where the product of the leg counts fits them. Assumes nothing.
-use mathlib.Core.Path.{_≡_}
-use Prim.Native.Nat.{ℕ, _*_, _≤_}
+use Prim.Native.Nat.{_*_, _≤_}
 use native.Mathlib.Nat.{le-trans}
-use native.Mathlib.Omega.{arith}
 use borrow.Author.Tests.{leb-true}
 use lib.ListN.{length}
 use Rattle.arcstring.proofs.Checks.{stored-whole, stored-some}
 use Rattle.arcstring_crossing.specs.Listing.{keptMarks, visited}
+use Rattle.arcstring_crossing.proofs.Bounds.{pairs-fit, points-fit, points-held}
 use Rattle.arcstring_crossing.proofs.Rows.{product-small}
+use Rattle.arcstring_crossing.proofs.Signs.{no}
 use Rattle.arcstring_crossing.proofs.Visits.{kept-two}
 use Rattle.arcstring_crossing.proofs.listing.holds_all.Statement.{statement}
 use Rattle.arcstring_crossing.proofs.listing.holds_all.Tie as tie
@@ -31,24 +31,16 @@ leg-count-requires-2 : tie.Need-leg-count-requires-2
 leg-count-requires-2 c κs = stored-some _ (c .before .before .before .pre .1)
 
 mul-pairs : tie.Need-mul-pairs
-mul-pairs c = omega (arith, small c)
+mul-pairs c = pairs-fit _ (small c)
 
 mul-if1 : tie.Need-mul-if1
-mul-if1 c = omega (arith, small c)
+mul-if1 c = points-fit _ (small c)
 
 returns : tie.Need-returns
-returns c = λ e. (
-  omega (arith, kept (c .before)),
-  omega (
-    arith,
-    kept (c .before),
-    leb-true
-        ((c .before .before .leg-count .result) * (c .before .leg-count2 .result)) (c .before .before .before .before .before .args .marks) e,
-  ),
-)
+returns c = λ e. let k = kept (c .before) in (points-held _ _ _ k (c .if1 .taken), le-trans k (leb-true _ _ e))
 
 returns-2 : tie.Need-returns-2
-returns-2 c = λ e. absurd (let z : _≡_ {A = ℕ} 0 1 = cc in omega arith)
+returns-2 c = λ e. no e
 
 pub holds-all-spec : {M : Type 1} → statement M
 holds-all-spec =

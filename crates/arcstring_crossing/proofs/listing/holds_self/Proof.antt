@@ -1,12 +1,13 @@
 -- The buffers hold a point and a mark of every pair of a string with itself, where half of (n - 2) * (n - 3) fits them. Assumes nothing.
-use mathlib.Core.Path.{_≡_}
-use Prim.Native.Nat.{ℕ, _-_, _*_, _/_, _≤_}
+use Prim.Native.Nat.{_-_, _*_, _/_, _≤_}
+use native.Mathlib.Nat.{le-trans, sub-le}
 use native.Mathlib.Omega.{arith}
-use borrow.Author.Needs.{needs}
 use borrow.Author.Tests.{leb-true}
 use lib.ListN.{length}
 use Rattle.arcstring.proofs.Checks.{stored-whole}
+use Rattle.arcstring_crossing.proofs.Bounds.{pairs-fit, half-points-fit, points-held, half-held}
 use Rattle.arcstring_crossing.proofs.Rows.{product-small}
+use Rattle.arcstring_crossing.proofs.Signs.{no}
 use Rattle.arcstring_crossing.proofs.Visits.{kept-self, kept-few}
 use borrow.Author.Needs.{needs}
 use Rattle.arcstring_crossing.proofs.listing.holds_self.Statement.{statement}
@@ -14,7 +15,7 @@ use Rattle.arcstring_crossing.proofs.listing.holds_self.Tie as tie
 
 small : (c : tie.Else1) → (length (c .before .args .v .now) / 3 - 2) * (length (c .before .args .v .now) / 3 - 3) ≤ 1048576
 small c = let w = stored-whole _ (c .before .pre) in
-    product-small _ _ (omega (arith, w .at-most)) (omega (arith, w .at-most))
+    product-small _ _ (le-trans (sub-le _ _) (w .at-most)) (le-trans (sub-le _ _) (w .at-most))
 
 returns : tie.Need-returns
 returns c = λ e. let z = kept-few (c .before .args .v .now) (c .if1 .taken) in (omega (arith, z), omega (arith, z))
@@ -26,17 +27,17 @@ sub-pairs-2 : tie.Need-sub-pairs-2
 sub-pairs-2 c = search needs
 
 mul-pairs : tie.Need-mul-pairs
-mul-pairs c = omega (arith, small c)
+mul-pairs c = pairs-fit _ (small c)
 
 mul-if2 : tie.Need-mul-if2
-mul-if2 c = omega (arith, small c)
+mul-if2 c = half-points-fit _ (small c)
 
 returns-2 : tie.Need-returns-2
-returns-2 c = λ e. let v = c .before .before .args .v .now in
-    (omega (arith, kept-self v), omega (arith, kept-self v, leb-true ((length v / 3 - 2) * (length v / 3 - 3) / 2) (c .before .before .args .marks) e))
+returns-2 c = λ e. let k = half-held _ _ (kept-self (c .before .before .args .v .now)) in
+    (points-held _ _ _ k (c .if2 .taken), le-trans k (leb-true _ _ e))
 
 returns-3 : tie.Need-returns-3
-returns-3 c = λ e. absurd (let z : _≡_ {A = ℕ} 0 1 = cc in omega arith)
+returns-3 c = λ e. no e
 
 pub holds-self-spec : {M : Type 1} → statement M
 holds-self-spec =

@@ -4,12 +4,11 @@ use mathlib.Core.Path.{refl}
 use Rattle.arcstring_crossing.specs.Listing.{listingOf}
 use Rattle.arcstring_crossing.proofs.Listings.{lists-plain, fitting-leaves, no-room-leaves, listing-leaves, room-for-all}
 use Rattle.arcstring_crossing.proofs.Tallies.{tally-kept}
-use borrow.Author.Needs.{needs}
 use Rattle.arcstring_crossing.proofs.listing.list_two.Statement.{statement}
 use Rattle.arcstring_crossing.proofs.listing.list_two.Tie as tie
 
 holds-all-requires : tie.Need-holds-all-requires
-holds-all-requires c κs = search needs
+holds-all-requires c κs = c .before .before .before .before .pre
 
 visit-two-requires : tie.Need-visit-two-requires
 visit-two-requires c κs = (
@@ -19,13 +18,13 @@ visit-two-requires c κs = (
 )
 
 counts-of-requires : tie.Need-counts-of-requires
-counts-of-requires c κs = search needs
+counts-of-requires c κs = tt
 
 same-length : tie.Need-same-length
-same-length c = search needs
+same-length c = c .before .before .before .before .before .visit-two .kept .1 .1 .1 .1 .0
 
 same-length-2 : tie.Need-same-length-2
-same-length-2 c = search needs
+same-length-2 c = c .before .before .before .before .before .visit-two .kept .1 .1 .1 .1 .1 .0
 
 returns : tie.Need-returns
 unfolding listingOf
@@ -34,20 +33,20 @@ returns c = let w = c .before .before .before .before .before .visit-two .ensure
     (c .before .before .before .before .before .before .before .before .if1 .taken)) refl (c .counts-of .ensures) (w .1 .0) (w .1 .1)
 
 tally-two-requires : tie.Need-tally-two-requires
-tally-two-requires c κs = search needs
+tally-two-requires c κs = c .before .before .before .before .before .before .pre
 
 check-buffers-requires : tie.Need-check-buffers-requires
-check-buffers-requires c κs = search needs
+check-buffers-requires c κs = c .tally-two .ensures .1
 
 enum-known-room : tie.Need-enum-known-room
-enum-known-room c = search needs
+enum-known-room c = c .match .keys1
 
 returns-2 : tie.Need-returns-2
 returns-2 c = no-room-leaves _ _ (lists-plain _) _ (c .before .before .before .before .tally-two .ensures .0) _ _ _
     (c .before .before .before .check-buffers .ensures) _ _ refl (c .before .room .given .1)
 
 enum-told : tie.Need-enum-told
-enum-told c = search needs
+enum-told c = c .match .keys2
 
 write-two-requires : tie.Need-write-two-requires
 write-two-requires c κs = let s = c .before .before .before .before .before .before .before .before .before .before .before .before in
@@ -58,13 +57,13 @@ write-two-requires c κs = let s = c .before .before .before .before .before .be
     )
 
 counts-of-requires-2 : tie.Need-counts-of-requires-2
-counts-of-requires-2 c κs = search needs
+counts-of-requires-2 c κs = tt
 
 same-length-3 : tie.Need-same-length-3
-same-length-3 c = search needs
+same-length-3 c = c .before .before .before .before .before .write-two .kept .1 .1 .1 .1 .1 .0
 
 same-length-4 : tie.Need-same-length-4
-same-length-4 c = search needs
+same-length-4 c = c .before .before .before .before .before .write-two .kept .1 .1 .1 .1 .1 .1 .0
 
 returns-3 : tie.Need-returns-3
 unfolding listingOf

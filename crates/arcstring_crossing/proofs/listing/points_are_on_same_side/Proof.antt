@@ -10,7 +10,6 @@ use Rattle.arcstring_crossing.specs.Crossing.{leg, legCheck}
 use Rattle.arcstring_crossing.specs.Listing.{sameSide}
 use Rattle.arcstring_crossing.proofs.Listings.{both-accepted}
 use Rattle.arcstring_crossing.proofs.Tallies.{tally-kept}
-use borrow.Author.Needs.{needs}
 use Rattle.arcstring_crossing.proofs.listing.points_are_on_same_side.Statement.{statement}
 use Rattle.arcstring_crossing.proofs.listing.points_are_on_same_side.Tie as tie
 
@@ -32,23 +31,23 @@ follows : (c : tie.After-enum-told) (x : Answer Bool) → x ≡ unlessRefused
 follows c x = answer-accepted-first _ (legCheck _) (storedCheck _) x (c .enum-told .given .1) (number (c .before .before))
 
 check-leg-requires : tie.Need-check-leg-requires
-check-leg-requires c κs = search needs
+check-leg-requires c κs = tt
 
 check-stored-requires : tie.Need-check-stored-requires
-check-stored-requires c κs = search needs
+check-stored-requires c κs = tt
 
 first-of-requires : tie.Need-first-of-requires
-first-of-requires c κs = search needs
+first-of-requires c κs = tt
 
 enum-known-checked : tie.Need-enum-known-checked
-enum-known-checked c = search needs
+enum-known-checked c = c .match .keys1
 
 returns : tie.Need-returns
 unfolding sameSide
 returns c = answer-refused-first _ _ (legCheck _) (storedCheck _) _ (c .before .checked .given .1) (number (c .before .before .before))
 
 enum-told : tie.Need-enum-told
-enum-told c = search needs
+enum-told c = c .match .keys2
 
 tally-leg-requires : tie.Need-tally-leg-requires
 tally-leg-requires c κs = accepted c

@@ -1,6 +1,7 @@
 -- The pairs of an accepted string with itself are counted, and what they keep is written and then normalised in place. Assumes nothing.
 use mathlib.Core.Path.{_≡_, refl, ap, _∙_}
 use mathlib.Core.Bool.{false}
+use native.Mathlib.Nat.{sub-le}
 use native.Mathlib.Omega.{arith}
 use Rattle.arcstring.proofs.Checks.{stored-whole, stored-some}
 use Rattle.arcstring_crossing.specs.Listing.{selfPairs}
@@ -10,7 +11,6 @@ use Rattle.arcstring_crossing.proofs.Listings.{normalized-in-place}
 use Rattle.arcstring_crossing.proofs.Marks.{room-at-start, room-of, written-of}
 use Rattle.arcstring_crossing.proofs.Tallies.{tally-kept}
 use Rattle.arcstring_crossing.proofs.Visits.{self-visits}
-use borrow.Author.Needs.{needs}
 use Rattle.arcstring_crossing.proofs.listing.visit_self.Statement.{statement}
 use Rattle.arcstring_crossing.proofs.listing.visit_self.Tie as tie
 
@@ -30,9 +30,9 @@ unfolding visitsFrom
 visit-requires c κs = let s = c .before .before .before .before .before in
     let w = stored-whole _ (s .pre .0) in
     let v = self-visits _ _ _ (s .pre .0) (open-count _ _ refl) in (
-      (w .triples, omega arith, w .at-most),
+      (w .triples, sub-le _ _, w .at-most),
       (
-        (w .triples, omega arith, w .at-most),
+        (w .triples, sub-le _ _, w .at-most),
         (
           λ e. (refl, refl),
           record {
@@ -48,10 +48,11 @@ normalize-points-requires c κs = let k = tally-kept _ _ (count (c .before .befo
     omega (arith, k, c .before .before .before .before .before .before .before .before .before .before .before .pre .1)
 
 same-length : tie.Need-same-length
-same-length c = search needs
+same-length c =
+    c .before .before .normalize-points .kept .0 ∙ c .before .before .before .before .before .before .before .before .visit .kept .1 .1 .1 .1 .1 .1 .1 .1 .0
 
 same-length-2 : tie.Need-same-length-2
-same-length-2 c = search needs
+same-length-2 c = c .before .before .before .before .before .before .before .before .visit .kept .1 .1 .1 .1 .1 .1 .1 .1 .1 .0
 
 returns : tie.Need-returns
 unfolding visitsFrom

@@ -5,7 +5,6 @@ use Rattle.arcstring_crossing.specs.Tally.{noTally, tallyOn, visitsFrom}
 use Rattle.arcstring_crossing.proofs.Marks.{room-at-start, room-of, written-of}
 use Rattle.arcstring_crossing.proofs.Visits.{two-visits}
 use Rattle.arcstring_crossing.proofs.Signs.{no}
-use borrow.Author.Needs.{needs}
 use Rattle.arcstring_crossing.proofs.listing.visit_two.Statement.{statement}
 use Rattle.arcstring_crossing.proofs.listing.visit_two.Tie as tie
 
@@ -36,10 +35,10 @@ visit-requires c κs = let s = c .before .before .before .before .before .before
     )
 
 same-length : tie.Need-same-length
-same-length c = search needs
+same-length c = c .before .before .before .before .visit .kept .1 .1 .1 .1 .1 .1 .1 .1 .0
 
 same-length-2 : tie.Need-same-length-2
-same-length-2 c = search needs
+same-length-2 c = c .before .before .before .before .visit .kept .1 .1 .1 .1 .1 .1 .1 .1 .1 .0
 
 returns : tie.Need-returns
 unfolding visitsFrom

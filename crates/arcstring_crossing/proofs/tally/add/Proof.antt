@@ -6,7 +6,7 @@ use Rattle.arcstring_crossing.proofs.tally.add.Statement.{statement}
 use Rattle.arcstring_crossing.proofs.tally.add.Tie as tie
 
 enum-told : tie.Need-enum-told
-enum-told c = search needs
+enum-told c = c .match .keys1
 
 add-t5 : tie.Need-add-t5
 add-t5 c = search needs
@@ -15,25 +15,25 @@ add-t6 : tie.Need-add-t6
 add-t6 c = search needs
 
 enum-told-2 : tie.Need-enum-told-2
-enum-told-2 c = search needs
+enum-told-2 c = c .match .keys2
 
 add-t7 : tie.Need-add-t7
 add-t7 c = search needs
 
 enum-known-p : tie.Need-enum-known-p
-enum-known-p c = search needs
+enum-known-p c = c .match .keys3
 
 add-t8 : tie.Need-add-t8
 add-t8 c = search needs
 
 outcome-kept-requires : tie.Need-outcome-kept-requires
-outcome-kept-requires c κs = search needs
+outcome-kept-requires c κs = tt
 
 add-t10 : tie.Need-add-t10
 add-t10 c = omega (arith, kept-of-grazing _ _ (c .before .outcome-kept .ensures))
 
 enum-told-3 : tie.Need-enum-told-3
-enum-told-3 c = search needs
+enum-told-3 c = c .match .keys4
 
 add-t11 : tie.Need-add-t11
 add-t11 c = search needs

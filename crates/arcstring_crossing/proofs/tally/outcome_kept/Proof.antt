@@ -1,17 +1,16 @@
 -- A kept point is one point, a dropped one none, and no point is none. Assumes nothing.
 use Rattle.arcstring_crossing.proofs.Tallies.{kept-of-kept, kept-of-dropped, kept-of-none}
-use borrow.Author.Needs.{needs}
 use Rattle.arcstring_crossing.proofs.tally.outcome_kept.Statement.{statement}
 use Rattle.arcstring_crossing.proofs.tally.outcome_kept.Tie as tie
 
 enum-told : tie.Need-enum-told
-enum-told c = search needs
+enum-told c = c .match .keys1
 
 enum-told-2 : tie.Need-enum-told-2
-enum-told-2 c = search needs
+enum-told-2 c = c .match .keys2
 
 enum-told-3 : tie.Need-enum-told-3
-enum-told-3 c = search needs
+enum-told-3 c = c .match .keys3
 
 returns : tie.Need-returns
 returns c = kept-of-kept _ _ (c .enum-told .given .1)

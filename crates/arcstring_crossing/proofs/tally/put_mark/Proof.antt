@@ -12,7 +12,7 @@ slice-write-marks : tie.Need-slice-write-marks
 slice-write-marks c = search needs
 
 same-length : tie.Need-same-length
-same-length c = search needs
+same-length c = c .before .before .put-vertex .kept .0
 
 same-length-2 : tie.Need-same-length-2
 same-length-2 c = search needs

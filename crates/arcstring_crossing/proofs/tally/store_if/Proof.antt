@@ -1,6 +1,5 @@
 -- If the walk writes, what one pair keeps is written; else nothing is. Assumes nothing.
 use Rattle.arcstring_crossing.proofs.Walks.{written-if, not-written}
-use borrow.Author.Needs.{needs}
 use Rattle.arcstring_crossing.proofs.tally.store_if.Statement.{statement}
 use Rattle.arcstring_crossing.proofs.tally.store_if.Tie as tie
 
@@ -8,10 +7,10 @@ store-requires : tie.Need-store-requires
 store-requires c κs = c .before .before .before .before .before .pre .fits (c .before .before .if1 .taken)
 
 same-length : tie.Need-same-length
-same-length c = search needs
+same-length c = c .before .before .before .before .store .kept .0
 
 same-length-2 : tie.Need-same-length-2
-same-length-2 c = search needs
+same-length-2 c = c .before .before .before .before .store .kept .1 .0
 
 returns : tie.Need-returns
 returns c = let e = c .before .before .before .before in

@@ -1,16 +1,18 @@
 -- The legs of one string against those of another, or of the same, counted and, if the walk writes, written. The loop's invariant: what is counted, with the
 -- pairs still to be visited counted on, is the count of all pairs, and so of what is written. Assumes nothing.
-use mathlib.Core.Path.{_≡_, refl}
+use mathlib.Core.Path.{_≡_, refl, _∙_}
 use mathlib.Core.List.{_++_}
 use Prim.Native.Nat.{_+_, _-_}
-use native.Mathlib.Omega.{arith}
+use native.Mathlib.Nat.{le-trans}
 use lib.ListN.{length}
 use Rattle.arcstring_crossing.specs.Plane.{planeLeg}
 use Rattle.arcstring_crossing.specs.Tally.{noTally, tallyOn, rowPairs, visitsFrom}
+use Rattle.arcstring_crossing.proofs.Bounds.{place-small, step-fits, still-long, sum-with-row}
 use Rattle.arcstring_crossing.proofs.Classes.{plane-leg, plane-again}
 use Rattle.arcstring_crossing.proofs.Rows.{visits-next, visits-none, visits-few}
-use Rattle.arcstring_crossing.proofs.Tallies.{counted-on, counted-none, counted-all, sum-so-far}
+use Rattle.arcstring_crossing.proofs.Tallies.{counted-on, counted-none, counted-all}
 use Rattle.arcstring_crossing.proofs.Walks.{WalksSame, walk-from-none, walk-room, walk-on, walk-done}
+use borrow.Author.Count.{falls}
 use borrow.Author.Needs.{needs}
 use Rattle.arcstring_crossing.proofs.walk.walk.Statement.{statement}
 use Rattle.arcstring_crossing.proofs.walk.walk.Tie as tie
@@ -38,7 +40,7 @@ next l = let s = start l in
     (l .row-start .ensures)
 
 none-requires : tie.Need-none-requires Inv-loop μ-loop
-none-requires c κs = search needs
+none-requires c κs = tt
 
 loop-holds : tie.Need-loop-holds Inv-loop μ-loop
 loop-holds c = (counted-none _ _ (c .none .ensures), walk-from-none _ _ _ _ _ (c .none .ensures), refl, refl, refl, refl)
@@ -47,12 +49,8 @@ leg-plane-requires : tie.Need-leg-plane-requires Inv-loop μ-loop
 leg-plane-requires c κs = search needs
 
 row-start-requires : tie.Need-row-start-requires Inv-loop μ-loop
-row-start-requires c κs = omega (
-  arith,
-  c .before .loop-test .taken,
-  c .before .before .before .before .before .before .before .before .before .before .before
-      .pre .0,
-)
+row-start-requires c κs = let p = c .before .before .before .before .before .before .before .before .before .before .before .pre .0 in
+    place-small _ _ _ (c .before .loop-test .taken) (p .1) (p .2)
 
 walk-row-requires : tie.Need-walk-row-requires Inv-loop μ-loop
 walk-row-requires c κs = let l = c .before .before .before .before in
@@ -60,35 +58,32 @@ walk-row-requires c κs = let l = c .before .before .before .before in
     let s = c .before .before .before .before .before .before .before .before .before .before .before .before .before .before .before .before in
     let q = s .pre .0 in
     let p = s .pre .1 .0 in
-    let few = visits-few (s .args .within) (s .args .a .now) (s .args .na) (q .0) (s .args .la) (q .1) (s .args .b .now) (s .args .lb) (omega (arith, q))
-    (omega (arith, p .1, p .2)) in (
+    let few = visits-few (s .args .within) (s .args .a .now) (s .args .na) (q .0) (s .args .la) (q .1) (s .args .b .now) (s .args .lb) (le-trans (q .1) (q .2))
+    (le-trans (p .1) (p .2)) in (
       (
         p .0,
         p .1,
         p .2,
-        omega (arith, sum-so-far (d .loop .t) noTally _ _ 1048576 (d .loop .inv .0) few, p .2),
+        sum-with-row (d .loop .t) _ _ _ (d .loop .inv .0) few (p .2),
         plane-again _ _
             (c .before .before .before .before .before .leg-plane .ensures),
         p .3,
       ),
       (
-        (omega (arith, d .loop .inv .4, p .4), omega (arith, d .loop .inv .5, p .5)),
+        (still-long _ _ _ (d .loop .inv .4) (p .4), still-long _ _ _ (d .loop .inv .5) (p .5)),
         walk-room _ _ _ _ _ (s .pre .1 .1 .1) (d .loop .t) _ _ _ _ _ (next l)
             (d .loop .inv .1),
       ),
     )
 
 add-i : tie.Need-add-i Inv-loop μ-loop
-add-i c = omega (
-  arith,
-  c .before .before .before .before .before .before .before .before .before .before .before .before .before .before .before .loop-test
-      .taken,
-  c .before .before .before .before .before .before .before .before .before .before .before .before .before .before .before .before .before .before
-      .before .before .before .before .before .before .before .pre .0,
-)
+add-i c = let d = c .before .before .before .before .before .before .before .before .before .before .before .before .before .before .before in
+    step-fits _ _ (d .loop-test .taken) (d .before .before .before .before .before .before .before .before .before .before .fits .la)
 
 loop-less : tie.Need-loop-less Inv-loop μ-loop
-loop-less c = search needs
+loop-less c =
+    falls _ _
+    (c .before .before .before .before .before .before .before .before .before .before .before .before .before .before .before .loop-test .taken)
 
 loop-again : tie.Need-loop-again Inv-loop μ-loop
 loop-again c = let e = c .before .before .before .before .before .before .before .before in
@@ -99,23 +94,23 @@ loop-again c = let e = c .before .before .before .before .before .before .before
           (c .before .before .before .before .before .before .before .before .before .before .before .before .before .before .before .before .before .before
           .before .before .before .before .before .before .before .pre .1 .1 .1) (d .loop .t) _ _ _ _ _ _ _ _ (next l) (d .loop .inv .1)
           (e .walk-row .ensures .0) (e .walk-row .ensures .1),
-      search needs,
-      search needs,
-      search needs,
-      search needs,
+      e .walk-row .kept .1 .1 .1 .1 .1 .1 .1 .1 .1 .1 .0 ∙ d .loop .inv .2,
+      e .walk-row .kept .1 .1 .1 .1 .1 .1 .1 .1 .1 .1 .1 .0 ∙ d .loop .inv .3,
+      e .walk-row .kept .1 .1 .1 .0 ∙ d .loop .inv .4,
+      e .walk-row .kept .1 .1 .1 .1 .0 ∙ d .loop .inv .5,
     )
 
 same-length : tie.Need-same-length Inv-loop μ-loop
-same-length c = search needs
+same-length c = c .before .loop .inv .4
 
 same-length-2 : tie.Need-same-length-2 Inv-loop μ-loop
-same-length-2 c = search needs
+same-length-2 c = c .before .loop .inv .5
 
 same-length-3 : tie.Need-same-length-3 Inv-loop μ-loop
-same-length-3 c = search needs
+same-length-3 c = c .before .loop .inv .2
 
 same-length-4 : tie.Need-same-length-4 Inv-loop μ-loop
-same-length-4 c = search needs
+same-length-4 c = c .before .loop .inv .3
 
 returns : tie.Need-returns Inv-loop μ-loop
 returns c = let d = c .before in

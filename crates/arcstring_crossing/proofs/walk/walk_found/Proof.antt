@@ -1,16 +1,18 @@
 -- A leg against the legs at some positions, counted on and, if the walk writes, written. The loop's invariant: what is counted, with the pairs still to be
 -- visited counted on, is the count of all pairs, and so of what is written. Assumes nothing.
-use mathlib.Core.Path.{_≡_, refl}
+use mathlib.Core.Path.{_≡_, refl, _∙_}
 use mathlib.Core.List.{[], _∷_, _++_}
 use Prim.Native.Nat.{_+_, _-_}
-use native.Mathlib.Omega.{arith}
+use native.Mathlib.Nat.{lt-of-lt-of-le, lt-of-le-of-lt}
 use lib.ListN.{length}
 use Rattle.arcstring_crossing.specs.Plane.{planeLeg}
 use Rattle.arcstring_crossing.specs.Tally.{tallyOn, foundPairs}
+use Rattle.arcstring_crossing.proofs.Bounds.{step-fits}
 use Rattle.arcstring_crossing.proofs.Sifted.{found-next, found-none, found-few}
 use Rattle.arcstring_crossing.proofs.Tallies.{counted-on, counted-all, sum-so-far}
 use Rattle.arcstring_crossing.proofs.Walks.{WalksSame, walk-start, walk-room, walk-on, walk-done}
-use borrow.Author.Needs.{needs}
+use borrow.Author.Count.{falls}
+use borrow.Author.Needs.{scaled-fits}
 use Rattle.arcstring_crossing.proofs.walk.walk_found.Statement.{statement}
 use Rattle.arcstring_crossing.proofs.walk.walk_found.Tie as tie
 
@@ -38,17 +40,18 @@ loop-holds : tie.Need-loop-holds Inv-loop μ-loop
 loop-holds c = (refl, walk-start _ _ _ _ _, refl, refl)
 
 mul-pair-at : tie.Need-mul-pair-at Inv-loop μ-loop
-mul-pair-at c = search needs
+mul-pair-at c = let s = c .before .before .before .before .before .before .before in
+    scaled-fits _ _ _ (lt-of-lt-of-le (c .loop-test .taken) (s .pre .1 .0 .0)) (s .good .1 .1 .1 .0 .1)
 
 shared-slice-read-pair-at : tie.Need-shared-slice-read-pair-at Inv-loop μ-loop
-shared-slice-read-pair-at c = search needs
+shared-slice-read-pair-at c = lt-of-lt-of-le (c .before .loop-test .taken) (c .before .before .before .before .before .before .before .before .pre .1 .0 .0)
 
 pair-at-requires : tie.Need-pair-at-requires Inv-loop μ-loop
 pair-at-requires c κs = let s = c .before .before .before .before .before .before .before .before in
     let p = s .pre .0 in
     let w = p .5 in
     let h = s .pre .1 .0 .1 _ (c .before .loop-test .taken) in
-    ((p .0, omega (arith, h, p .1), w .long, omega (arith, h, w .wide), w .narrow), (p .4, w .each _ h))
+    ((p .0, lt-of-lt-of-le h (p .1), w .long, lt-of-lt-of-le h (w .wide), w .narrow), (p .4, w .each _ h))
 
 store-if-requires : tie.Need-store-if-requires Inv-loop μ-loop
 store-if-requires c κs = let e = c .before .before in
@@ -59,18 +62,16 @@ store-if-requires c κs = let e = c .before .before in
 add-requires : tie.Need-add-requires Inv-loop μ-loop
 add-requires c κs = let d = c .before .before .before .before .before .before .before .before .before .before in
     let s = c .before .before .before .before .before .before .before .before .before .before .before .before .before .before .before .before in
-    omega (
-      arith,
-      sum-so-far (d .loop .t) (s .args .start) _ _ (s .args .m) (d .loop .inv .0)
-          (found-few (planeLeg (s .args .arc)) (s .args .v .now) (s .args .n) (s .args .flagged .now) (s .args .m) (s .pre .1 .0 .0)),
-      s .pre .0 .3,
-    )
+    lt-of-le-of-lt
+    (sum-so-far (d .loop .t) (s .args .start) _ _ (s .args .m) (d .loop .inv .0)
+    (found-few (planeLeg (s .args .arc)) (s .args .v .now) (s .args .n) (s .args .flagged .now) (s .args .m) (s .pre .1 .0 .0))) (s .pre .0 .3)
 
 add-j : tie.Need-add-j Inv-loop μ-loop
-add-j c = search needs
+add-j c = let d = c .before .before .before .before .before .before .before .before .before .before in
+    step-fits _ _ (d .loop-test .taken) (d .before .before .before .before .before .before .before .fits .m)
 
 loop-less : tie.Need-loop-less Inv-loop μ-loop
-loop-less c = search needs
+loop-less c = falls _ _ (c .before .before .before .before .before .before .before .before .before .before .loop-test .taken)
 
 loop-again : tie.Need-loop-again Inv-loop μ-loop
 loop-again c = let e = c .before .before .before .before .before .before .before .before in
@@ -79,16 +80,15 @@ loop-again c = let e = c .before .before .before .before .before .before .before
       walk-on _ _ _ _ _
           (c .before .before .before .before .before .before .before .before .before .before .before .before .before .before .before .before .before .pre .1 .1)
           (d .loop .t) _ _ _ _ _ _ _ _ (next e) (d .loop .inv .1) (c .add .ensures) (c .before .before .before .before .before .store-if .ensures),
-      search
-          needs,
-      search needs,
+      c .before .before .before .before .before .store-if .kept .1 .0 ∙ d .loop .inv .2,
+      c .before .before .before .before .before .store-if .kept .1 .1 .0 ∙ d .loop .inv .3,
     )
 
 same-length : tie.Need-same-length Inv-loop μ-loop
-same-length c = search needs
+same-length c = c .before .loop .inv .2
 
 same-length-2 : tie.Need-same-length-2 Inv-loop μ-loop
-same-length-2 c = search needs
+same-length-2 c = c .before .loop .inv .3
 
 returns : tie.Need-returns Inv-loop μ-loop
 returns c = let d = c .before in
