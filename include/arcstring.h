@@ -28,13 +28,13 @@
  * with strings of 64 and of 1,024 vertices (compare/run stack):
  *
  *     161,000  arcstring_split
- *     124,000  arcstring_overlaps
+ *     116,000  arcstring_overlaps
  *      92,000  arcstring_crossings, arcstring_crossings_with_self, arcstring_leg_crossings, arcstring_count, arcstring_crosses,
  *              arcstring_crosses_self, arcstring_same_side
  *      66,500  arcstring_equals
- *      29,500  arcstring_insert_vertices
+ *      32,500  arcstring_insert_vertices
  *      25,000  arcstring_split_leg
- *      20,000  arcstring_simplify
+ *      18,000  arcstring_simplify
  *       1,000  every other call
  */
 #ifndef ARCSTRING_H

@@ -156,14 +156,25 @@ fn one_leg(kind: &str, n: usize, step: f64) {
 pub type Times = [f64; 2];
 
 /// a point far from the string, so that every entry and every leg is looked at
-fn along(n: usize) -> Times {
-    let v = string(n, 5 + n as u64, 0.1);
-    let s = stored(&v, &v, false);
+fn along_string(v: &[f64], closed: bool) -> Times {
+    let s = stored(v, v, closed);
     let (p, mut yes) = ([-v[0], -v[1], -v[2]], 0u8);
-    by_turns((16384 / n).max(4), [
+    by_turns((49152 / v.len()).max(4), [
         &mut || _ = black_box(point_is_along_arcstring(black_box(&p), &s)),
-        &mut || _ = unsafe { c::arcstring_along(p[0], p[1], p[2], black_box(v.as_ptr()), v.len(), v.as_ptr(), v.len(), 0, &mut yes) },
+        &mut || _ = unsafe { c::arcstring_along(p[0], p[1], p[2], black_box(v.as_ptr()), v.len(), v.as_ptr(), v.len(), closed as u8, &mut yes) },
     ])
+}
+
+fn along(n: usize) -> Times {
+    along_string(&string(n, 5 + n as u64, 0.1), false)
+}
+
+fn along_closed(n: usize) -> Times {
+    along_string(&string(n, 5 + n as u64, 0.1), true)
+}
+
+fn along_short(n: usize) -> Times {
+    along_string(&strings::shortened(&string(n, 5 + n as u64, 0.1)), false)
 }
 
 /// a string that does not cross itself, so that every pair is looked at
@@ -197,22 +208,35 @@ fn of_legs(sizes: &[usize], line: fn(&str, usize, f64)) {
     }
 }
 
-fn calls() {
+type Call = (&'static str, &'static [usize], fn(usize) -> Times);
+
+const CALLS: [Call; 10] = [
+    ("crosses_self", &SIZES, crosses_self),
+    ("same_side", &[1024], same_side),
+    ("build", &SIZES, strings::build),
+    ("walk_back, beside a copy reversed", &SIZES, strings::walk_back),
+    ("restart, beside a copy rotated", &SIZES, strings::restart),
+    ("simplify, nothing removed", &SIZES, strings::simplify_none),
+    ("simplify, every second vertex removed", &SIZES, strings::simplify_half),
+    ("insert_vertices", &SIZES, strings::insert_vertices),
+    ("split", &SIZES, strings::split),
+    ("along", &SIZES, along),
+];
+
+/// closed strings, and points that are not unit vectors
+const OTHER_STRINGS: [Call; 6] = [
+    ("build, closed", &SIZES, strings::build_closed),
+    ("build, shorter vectors", &SIZES, strings::build_short),
+    ("simplify, closed", &SIZES, strings::simplify_closed),
+    ("simplify, shorter vectors", &SIZES, strings::simplify_short),
+    ("along, closed", &SIZES, along_closed),
+    ("along, shorter vectors", &SIZES, along_short),
+];
+
+fn table(calls: &[Call]) {
     println!("\n| call | vertices | published, us a call | ratio |\n|---|---|---|---|");
-    let calls: [(&str, &[usize], fn(usize) -> Times); 10] = [
-        ("crosses_self", &SIZES, crosses_self),
-        ("same_side", &[1024], same_side),
-        ("build", &SIZES, strings::build),
-        ("walk_back, beside a copy reversed", &SIZES, strings::walk_back),
-        ("restart, beside a copy rotated", &SIZES, strings::restart),
-        ("simplify, nothing removed", &SIZES, strings::simplify_none),
-        ("simplify, every second vertex removed", &SIZES, strings::simplify_half),
-        ("insert_vertices", &SIZES, strings::insert_vertices),
-        ("split", &SIZES, strings::split),
-        ("along", &SIZES, along),
-    ];
     for (name, sizes, call) in calls {
-        for n in sizes {
+        for n in *sizes {
             let [published, ours] = call(*n);
             println!("| {name} | {n} | {:.2} | {:.2} |", published / 1000.0, ours / published);
         }
@@ -229,7 +253,8 @@ pub fn run() {
     of_legs(&[1024], one_leg);
     #[cfg(feature = "s2")]
     s2::table();
-    calls();
+    table(&CALLS);
+    table(&OTHER_STRINGS);
     let inputs = roots::inputs();
     let [processor, ours] = by_turns(16, [&mut || roots::all(&inputs, f64::sqrt), &mut || roots::all(&inputs, roots::sqrt)]);
     println!("\nsquare root: the processor's {:.1} ns, ratio {:.1}", processor / inputs.len() as f64, ours / processor);

@@ -4,13 +4,19 @@ use crate::bench::{Times, string};
 use crate::calls::c;
 use crate::expected::{flat, stored, triples};
 use crate::inputs::between;
-use crate::random::Xyz;
+use crate::random::{Random, Xyz};
 use crate::timing::by_turns;
 use sphersgeo::arcstring::{ArcString, split_arcstring_at_points};
 use sphersgeo::sphericalpoint::{MultiSphericalPoint, SphericalPoint};
 use std::hint::black_box;
 
 // ---- strings and buffers
+
+/// the points of a string, each shortened by another factor from 0.1 to 0.9
+pub fn shortened(v: &[f64]) -> Vec<f64> {
+    let mut random = Random(v.len() as u64);
+    v.chunks_exact(3).flat_map(|p| { let t = 0.5 + 0.4 * random.coordinate(); [t * p[0], t * p[1], t * p[2]] }).collect()
+}
 
 /// a vertex put in after each but the last, at t of the way to the next: beyond it where t is over 1
 fn doubled(v: &[f64], t: f64) -> Vec<f64> {
@@ -58,13 +64,28 @@ fn times(inner: usize, published: &mut dyn FnMut(), ours: &mut dyn FnMut() -> u3
 
 // ---- calls
 
-pub fn build(n: usize) -> Times {
-    let (v, u, mut room, mut closed) = (string(n, 5 + n as u64, 0.1), buoys(n), Room::new(), 0);
+fn built(v: &[f64]) -> Times {
+    let (n, u, mut room, mut closed) = (v.len() / 3, buoys(v.len() / 3), Room::new(), 0);
     let (out, out_n, b, bn, count) = room.lent();
-    let mut published = || _ = black_box(ArcString::try_from(MultiSphericalPoint::try_from(triples(black_box(&v))).unwrap()).unwrap());
+    let mut published = || _ = black_box(ArcString::try_from(MultiSphericalPoint::try_from(triples(black_box(v))).unwrap()).unwrap());
     times(16384 / n, &mut published, &mut || unsafe {
         c::arcstring_build(black_box(v.as_ptr()), v.len(), u.as_ptr(), u.len(), out, out_n, b, bn, count, &mut closed)
     })
+}
+
+pub fn build(n: usize) -> Times {
+    built(&string(n, 5 + n as u64, 0.1))
+}
+
+/// the last point is the first one, so that every other is normalised twice
+pub fn build_closed(n: usize) -> Times {
+    let mut v = string(n, 5 + n as u64, 0.1);
+    v.copy_within(..3, 3 * n - 3);
+    built(&v)
+}
+
+pub fn build_short(n: usize) -> Times {
+    built(&shortened(&string(n, 5 + n as u64, 0.1)))
 }
 
 pub fn walk_back(n: usize) -> Times {
@@ -94,29 +115,40 @@ pub fn restart(n: usize) -> Times {
     })
 }
 
-/// a string of n - 1 vertices
-fn simplified(n: usize, t: f64) -> Times {
-    let v = doubled(&string(n / 2, 9 + n as u64, 0.1), t);
-    let (s, u, mut room) = (stored(&v, &v, false), buoys(v.len() / 3), Room::new());
+fn simplified(v: &[f64], closed: bool) -> Times {
+    let (s, u, mut room) = (stored(v, v, closed), buoys(v.len() / 3), Room::new());
     let (out, out_n, b, bn, count) = room.lent();
     let mut published = || {
         let mut copy = black_box(&s).clone();
         copy.simplify();
         black_box(copy);
     };
-    times(8192 / n, &mut published, &mut || unsafe {
-        c::arcstring_simplify(black_box(v.as_ptr()), v.len(), u.as_ptr(), u.len(), 0, out, out_n, b, bn, count)
+    times(24576 / v.len(), &mut published, &mut || unsafe {
+        c::arcstring_simplify(black_box(v.as_ptr()), v.len(), u.as_ptr(), u.len(), closed as u8, out, out_n, b, bn, count)
     })
 }
 
-/// every second vertex lies between its neighbours: one look, and the source's test, which looks for the third point, removes none
+/// a string of n - 1 vertices of which every second one lies between its neighbours: one look, and the source's test, which looks for the
+/// third point, removes none
+fn between_neighbours(n: usize) -> Vec<f64> {
+    doubled(&string(n / 2, 9 + n as u64, 0.1), 0.5)
+}
+
 pub fn simplify_none(n: usize) -> Times {
-    simplified(n, 0.5)
+    simplified(&between_neighbours(n), false)
+}
+
+pub fn simplify_closed(n: usize) -> Times {
+    simplified(&between_neighbours(n), true)
+}
+
+pub fn simplify_short(n: usize) -> Times {
+    simplified(&shortened(&between_neighbours(n)), false)
 }
 
 /// every second vertex lies beyond the next one, and goes in the first round
 pub fn simplify_half(n: usize) -> Times {
-    simplified(n, 1.5)
+    simplified(&doubled(&string(n / 2, 9 + n as u64, 0.1), 1.5), false)
 }
 
 /// four points put into a string of n - 8 vertices

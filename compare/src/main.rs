@@ -15,6 +15,7 @@ mod inputs;
 mod kinds;
 mod narrow;
 mod numbered;
+mod plane;
 mod random;
 mod request;
 mod roots;
@@ -38,13 +39,14 @@ use tally::Tally;
 type Work = fn(&mut Tally, u64);
 
 /// What can be compared, with the usual number of comparisons; the found and the small requests are as many as there are.
-const COMPARISONS: [(&str, u64, Work); 9] = [
+const COMPARISONS: [(&str, u64, Work); 10] = [
     ("found", 1, found::run),
     ("roots", 12_000_000, roots::run),
     ("vectors", 3_000_000, vectors::run),
     ("small", 1, small::run),
     ("strings", 6_000_000, strings::run),
     ("narrow", 5_000_000, narrow::run),
+    ("plane", 3_000_000, plane::run),
     ("edits", 1_000_000, edits::run),
     ("buoys", 3_000_000, buoys::run),
     ("unit", 40_000_000, unit::run),

@@ -29,6 +29,15 @@ fn answer(yes: bool) -> &'static str {
     if yes { "yes" } else { "no" }
 }
 
+/// the test of three points of any floats
+pub fn coplanar(tally: &mut Tally, a: Xyz, b: Xyz, c: Xyz) {
+    let theirs = published::xyzs_coplanar(&a, &b, &c);
+    let ours = unsafe { sphericalpoint_xyzs_coplanar(point(a), point(b), point(c)) };
+    tally.compare(&format!("xyzs_coplanar {}", answer(theirs)), ours == theirs, || {
+        format!("xyzs_coplanar {:016X?} {:016X?} {:016X?}", bits(a), bits(b), bits(c))
+    });
+}
+
 pub fn run(tally: &mut Tally, n: u64) {
     let mut points = Points::new(2);
     while tally.done < n {
@@ -36,11 +45,7 @@ pub fn run(tally: &mut Tally, n: u64) {
         let theirs = published::xyz_eq(&a, &b);
         let ours = unsafe { sphericalpoint_xyz_eq(point(a), point(b)) };
         tally.compare(&format!("xyz_eq {}", answer(theirs)), ours == theirs, || format!("xyz_eq {:016X?} {:016X?}", bits(a), bits(b)));
-        let theirs = published::xyzs_coplanar(&a, &b, &c);
-        let ours = unsafe { sphericalpoint_xyzs_coplanar(point(a), point(b), point(c)) };
-        tally.compare(&format!("xyzs_coplanar {}", answer(theirs)), ours == theirs, || {
-            format!("xyzs_coplanar {:016X?} {:016X?} {:016X?}", bits(a), bits(b), bits(c))
-        });
+        coplanar(tally, a, b, c);
         let theirs = published::SphericalPoint::from(a).xyz;
         let r = unsafe { sphericalpoint_from(a[0], a[1], a[2]) };
         let ours = [r.x, r.y, r.z];

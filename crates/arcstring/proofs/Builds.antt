@@ -51,14 +51,7 @@ pub ends-of : (v : List Float) (n : ℕ) (a b p q : SphericalPoint) (r : Bool) �
     a ≡ pointAt v 0 → p ≡ normalizedUnlessShort a → b ≡ pointAt v (n - 1) → q ≡ normalizedUnlessShort b → r ≡ xyzEq p q → r ≡ endsMeet (normalizedAll (points v))
 ends-of v n a b p q r whole some ha hp hb hq hr = cc (ends-at v n whole some)
 
--- the first m points normalised, once they are copied
-pub open-of : (v : List Float) (m : ℕ) (old mid last : List Float) → 3 * m ≤ length v → mid ≡ splice old 0 (take (3 * m) v) →
-    last ≡ flat (normalizedAll (points (take (3 * m) mid))) ++ drop (3 * m) mid → last ≡ flat (normalizedAll (points (take (3 * m) v))) ++ drop (3 * m) old
-open-of v m old mid last known copied after =
-    let w : length (take (3 * m) v) ≡ 3 * m = length-take-le (3 * m) v known in
-    map-written normalizedUnlessShort m old mid last (take (3 * m) v) w (copied ∙ splice-front old (3 * m) (take (3 * m) v) w) after
-
--- and normalised again
+-- the first m points normalised twice
 pub closed-of : (v : List Float) (m : ℕ) (old mid last : List Float) → 3 * m ≤ length v → mid ≡ flat (normalizedAll (points (take (3 * m) v))) ++ drop (3 * m) old →
     last ≡ flat (normalizedAll (points (take (3 * m) mid))) ++ drop (3 * m) mid → last ≡ flat (normalizedAll (normalizedAll (points (take (3 * m) v)))) ++ drop (3 * m) old
 closed-of v m old mid last known once after =

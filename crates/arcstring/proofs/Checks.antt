@@ -1,6 +1,6 @@
 -- The checks at each outcome of their tests, and what an accepted list is. Assumes nothing.
 use mathlib.Core.Path.{_≡_, refl, sym, ap, _∙_}
-use mathlib.Core.Bool.{Bool, true, false, not, _&&_}
+use mathlib.Core.Bool.{Bool, true, false, not, _&&_, and-true, and-assoc}
 use mathlib.Core.List.{List}
 use Prim.Native.Nat.{ℕ, suc, _+_, _*_, _/_, _%_, _≤_, _<_}
 use native.Mathlib.Omega.{arith}
@@ -49,15 +49,18 @@ step : (v : List Float) (i : ℕ) → i < length v → allInRange (drop i v) ≡
 unfolding allInRange
 step v i h = rw (add-one, drop-cons v i nan)
 
-pub range-stop : (v : List Float) (i : ℕ) → i < length v → inRange (getD v i nan) ≡ false → allInRange (drop i v) ≡ false
-range-stop v i h e = step v i h ∙ ap (λ (b : Bool). b && allInRange (drop (i + 1) v)) e
+-- what was found so far, with what the rest says, decides for the whole: one coordinate further, and past the last
+module _ (v : List Float) (i : ℕ) (all whole : Bool) (before : all && allInRange (drop i v) ≡ whole) where
+  pub range-next : (found : Bool) → i < length v → found ≡ inRange (getD v i nan) → all && found && allInRange (drop (i + 1) v) ≡ whole
+  range-next found h e =
+      and-assoc all found (allInRange (drop (i + 1) v))
+      ∙ ap (λ (b : Bool). all && (b && allInRange (drop (i + 1) v))) e
+      ∙ ap (λ (b : Bool). all && b) (sym (step v i h))
+      ∙ before
 
-pub range-go : (v : List Float) (i : ℕ) → i < length v → inRange (getD v i nan) ≡ true → allInRange (drop (i + 1) v) ≡ allInRange (drop i v)
-range-go v i h e = sym (step v i h ∙ ap (λ (b : Bool). b && allInRange (drop (i + 1) v)) e)
-
-pub range-end : (v : List Float) (i : ℕ) → length v ≤ i → allInRange (drop i v) ≡ true
-unfolding allInRange
-range-end v i h = rw (drop-of-length-le v h)
+  pub range-end : length v ≤ i → all ≡ whole
+  unfolding allInRange
+  range-end h = sym (and-true all) ∙ ap (λ (w : List Float). all && allInRange w) (sym (drop-of-length-le v h)) ∙ before
 
 -- ---- the checks of a list
 

@@ -81,9 +81,9 @@ reverse-all v n i old out whole end before =
     let w : length (flat (reverse (points v))) ≡ 3 * n = length-flat (reverse (points v)) ∙ simp (length-reverse, length-points n v whole) in
     before ∙ ap (λ (k : ℕ). splice old 0 (flat (reverse (drop k (points v))))) e ∙ splice-front old (3 * n) (flat (reverse (points v))) w
 
--- ---- the points of a list changed one by one, in place
+-- ---- the points of a list changed one by one, into another list or in place
 
--- the next point is still as it came
+-- in place: the next point is still as it came
 unchanged : (i : ℕ) (old out w : List Float) → length w ≡ 3 * i → out ≡ splice old 0 w → pointAt out i ≡ pointAt old i
 unchanged i old out w h before =
     let e : 0 + length w + 0 ≡ 3 * i = omega arith in
@@ -92,27 +92,36 @@ unchanged i old out w h before =
     rw k at (sym (point-at-drop out i 0) ∙ ap (λ (l : List Float). pointAt l 0) same ∙ point-at-drop old i 0)
 
 module _ (f : SphericalPoint → SphericalPoint) where
-  pub length-mapped : (i : ℕ) (old : List Float) → 3 * i ≤ length old → length (flat (map f (points (take (3 * i) old)))) ≡ 3 * i
-  length-mapped i old room =
-      length-flat (map f (points (take (3 * i) old))) ∙ simp (length-map, length-points i (take (3 * i) old) (length-take-le (3 * i) old room))
+  pub length-mapped : (i : ℕ) (v : List Float) → 3 * i ≤ length v → length (flat (map f (points (take (3 * i) v)))) ≡ 3 * i
+  length-mapped i v known =
+      length-flat (map f (points (take (3 * i) v))) ∙ simp (length-map, length-points i (take (3 * i) v) (length-take-le (3 * i) v known))
 
-  pub map-step : (i : ℕ) (old out out' : List Float) (p : SphericalPoint) → 3 * i + 3 ≤ length old →
-      out ≡ splice old 0 (flat (map f (points (take (3 * i) old)))) → p ≡ f (pointAt out i) → out' ≡ splice out (3 * i) (floats p) →
-      out' ≡ splice old 0 (flat (map f (points (take (3 * (i + 1)) old))))
-  map-step i old out out' p room before read after =
-      let done = map f (points (take (3 * i) old)) in
-      let w : length (flat done) ≡ 3 * i = length-mapped i old (omega arith) in
-      let q : f (pointAt old i) ≡ p = sym (read ∙ ap f (unchanged i old out (flat done) w before)) in
-      let t : points (take (3 * (i + 1)) old) ≡ points (take (3 * i) old) ++ (pointAt old i ∷ []) =
-      ap points (take-next old i room) ∙ points-append i (take (3 * i) old) _ (length-take-le (3 * i) old (omega arith)) in
-      let more : flat (map f (points (take (3 * (i + 1)) old))) ≡ flat done ++ floats p =
-      ap (λ (ps : List SphericalPoint). flat (map f ps)) t ∙ ap flat (map-append f (points (take (3 * i) old)) _) ∙ flat-append done _ ∙ ap (λ (r : SphericalPoint). flat done ++ flat (r ∷ [])) q in
+  pub map-step : (v : List Float) (i : ℕ) (old out out' : List Float) (p : SphericalPoint) → 3 * i + 3 ≤ length v →
+      out ≡ splice old 0 (flat (map f (points (take (3 * i) v)))) → p ≡ f (pointAt v i) → out' ≡ splice out (3 * i) (floats p) →
+      out' ≡ splice old 0 (flat (map f (points (take (3 * (i + 1)) v))))
+  map-step v i old out out' p known before read after =
+      let done = map f (points (take (3 * i) v)) in
+      let w : length (flat done) ≡ 3 * i = length-mapped i v (omega arith) in
+      let t : points (take (3 * (i + 1)) v) ≡ points (take (3 * i) v) ++ (pointAt v i ∷ []) =
+      ap points (take-next v i known) ∙ points-append i (take (3 * i) v) _ (length-take-le (3 * i) v (omega arith)) in
+      let more : flat (map f (points (take (3 * (i + 1)) v))) ≡ flat done ++ floats p =
+      ap (λ (ps : List SphericalPoint). flat (map f ps)) t
+      ∙ ap flat (map-append f (points (take (3 * i) v)) _)
+      ∙ flat-append done _
+      ∙ ap (λ (r : SphericalPoint). flat done ++ flat (r ∷ [])) (sym read) in
       spliced-next old out out' 0 (flat done) (3 * i) (floats p) before after (omega arith) (omega arith) ∙ ap (splice old 0) (sym more)
 
-  pub map-all : (n i : ℕ) (old out : List Float) → 3 * n ≤ length old → i ≡ n → out ≡ splice old 0 (flat (map f (points (take (3 * i) old)))) →
-      out ≡ flat (map f (points (take (3 * n) old))) ++ drop (3 * n) old
-  map-all n i old out room end before =
-      before ∙ ap (λ (k : ℕ). splice old 0 (flat (map f (points (take (3 * k) old))))) end ∙ splice-front old (3 * n) _ (length-mapped n old room)
+  pub map-step-in-place : (i : ℕ) (old out out' : List Float) (p : SphericalPoint) → 3 * i + 3 ≤ length old →
+      out ≡ splice old 0 (flat (map f (points (take (3 * i) old)))) → p ≡ f (pointAt out i) → out' ≡ splice out (3 * i) (floats p) →
+      out' ≡ splice old 0 (flat (map f (points (take (3 * (i + 1)) old))))
+  map-step-in-place i old out out' p known before read after =
+      let same : pointAt out i ≡ pointAt old i = unchanged i old out (flat (map f (points (take (3 * i) old)))) (length-mapped i old (omega arith)) before in
+      map-step old i old out out' p known before (read ∙ ap f same) after
+
+  pub map-all : (v : List Float) (n i : ℕ) (old out : List Float) → 3 * n ≤ length v → i ≡ n →
+      out ≡ splice old 0 (flat (map f (points (take (3 * i) v)))) → out ≡ flat (map f (points (take (3 * n) v))) ++ drop (3 * n) old
+  map-all v n i old out known end before =
+      before ∙ ap (λ (k : ℕ). splice old 0 (flat (map f (points (take (3 * k) v))))) end ∙ splice-front old (3 * n) _ (length-mapped n v known)
 
   -- of a list whose first floats w have been written
   pub map-written : (m : ℕ) (old mid last w : List Float) → length w ≡ 3 * m → mid ≡ w ++ drop (3 * m) old → last ≡ flat (map f (points (take (3 * m) mid))) ++ drop (3 * m) mid →

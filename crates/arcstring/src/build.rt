@@ -47,8 +47,12 @@ pub fn build_open(v: &[f64], m: usize, out: &mut [f64])
     requires { ⌜ (3 * m ≤ length (now v)) × (3 * m ≤ length (now out)) ⌝ }
     ensures { λ _. ⌜ now (out .exit) ≡ flat (normalizedAll (points (take (3 * m) (now (v .entry))))) ++ drop (3 * m) (now (out .entry)) ⌝ }
 {
-    vertex::copy_run(v, 0, m, out, 0);
-    normalize_points(out, m);
+    let mut i = 0;
+    while i < m {
+        let p = vertex::vertex_at(v, i);
+        vertex::put_vertex(out, i, sphericalpoint::normalize_unless_short(p));
+        i += 1;
+    }
 }
 
 // The first `m` points of `v`, normalised twice: a closed string's vertices.

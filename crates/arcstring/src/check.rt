@@ -51,17 +51,18 @@ fn in_range(x: f64) -> bool
     (-1.0 <= x) & (x <= 1.0)
 }
 
+// Every float is looked at, also after one that is out of range: with no way out of the loop the processor takes two at a time.
 fn all_in_range(list: &[f64]) -> bool
     ensures { λ r. ⌜ r ≡ allInRange (now (list .entry)) ⌝ }
 {
+    let n = list.len();
+    let mut all = true;
     let mut i = 0;
-    while i < list.len() {
-        if !in_range(list[i]) {
-            return false;
-        }
+    while i < n {
+        all = all & in_range(list[i]);
         i += 1;
     }
-    true
+    all
 }
 
 // The checks of any list in number order; `few` is what is asked of how few points there are.

@@ -1,12 +1,12 @@
 // Whether a point is near an entry of a near list, and whether it is along a string.
 ghost use mathlib.Core.Path.{_≡_};
-ghost use Prim.Native.Nat.{_*_, _≤_};
+ghost use Prim.Native.Nat.{_*_, _≤_, _<_};
 ghost use lib.ListN.{length};
 ghost use Rattle.arcstring.specs.Points.{points};
 ghost use Rattle.arcstring.specs.Check.{storedCheck};
 ghost use Rattle.arcstring.specs.Point.{decidedAnswer};
 ghost use Rattle.arcstring_crossing.specs.Crossing.{legOf};
-ghost use Rattle.arcstring_crossing.specs.Tally.{legsFrom};
+ghost use Rattle.arcstring_crossing.specs.Tally.{legAt, legsFrom};
 ghost use Rattle.arcstring_relation.specs.OnString.{foundAt, isNear, firstNear, nearSome, alongLeg, alongSomeLeg, alongString, stored, along};
 use arcstring::check;
 use arcstring::check::Checked;
@@ -55,7 +55,19 @@ pub(crate) fn near_some(p: SphericalPoint, near: &[f64], n: usize) -> bool
     }
 }
 
-// The point stands in the second place of the source's test, which seeks the leg's end between start and point.
+// Whether a point is along leg k of n vertices, which are read where they stand; coordinates go to the test in registers. The point stands in the
+// second place of the source's test, which seeks the leg's end between start and point.
+pub fn along_leg_at(p: SphericalPoint, v: &[f64], n: usize, k: usize) -> bool
+    requires { ⌜ (length (now v) ≡ 3 * n) × (k < n) ⌝ }
+    ensures { λ r. ⌜ r ≡ alongLeg p (legAt (now (v .entry)) n k) ⌝ }
+{
+    let next = if k + 1 < n { k + 1 } else { 0 };
+    let a = vertex::vertex_at(v, k);
+    let b = vertex::vertex_at(v, next);
+    sphericalpoint::coplanar_of(a.x, a.y, a.z, p.x, p.y, p.z, b.x, b.y, b.z)
+}
+
+// The same of a leg by itself.
 pub fn along_leg(p: SphericalPoint, arc: [[f64; 3]; 2]) -> bool
     ensures { λ r. ⌜ r ≡ alongLeg p (legOf arc) ⌝ }
 {
@@ -69,7 +81,7 @@ fn along_some_leg(p: SphericalPoint, v: &[f64], n: usize, l: usize) -> bool
 {
     let mut k = 0;
     while k < l {
-        if along_leg(p, tally::leg_at(v, n, k)) {
+        if along_leg_at(p, v, n, k) {
             return true;
         }
         k += 1;

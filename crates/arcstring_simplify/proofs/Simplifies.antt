@@ -21,7 +21,7 @@ use Rattle.arcstring.specs.Positions.{Within, positionsFrom, buoyAt, vertexAt}
 use Rattle.arcstring.specs.Check.{checkNumber, storedCheck, stringCheck, intoRoom, intoRooms, lent}
 use Rattle.arcstring.specs.Walk.{writtenAnswer, writtenResult, writtenFloats}
 use Rattle.arcstring.specs.Work.{held}
-use Rattle.arcstring.proofs.Answers.{answer-refused, answer-accepted}
+use Rattle.arcstring.proofs.Answers.{pass, answer-refused, answer-accepted}
 use Rattle.arcstring.proofs.Checks.{stored-whole, string-stored, as-many-buoys}
 use Rattle.arcstring.proofs.Flat.{length-flat}
 use Rattle.arcstring.proofs.Rooms.{no-room-into, room-into}
@@ -35,11 +35,15 @@ use Rattle.arcstring_simplify.proofs.RoundSteps.{simplified-within}
 -- ---- all positions, before the first round
 
 module _ (n : ℕ) (old at : List ℕ) (wrote : at ≡ positionsFrom 0 n ++ drop n old) where
-  pub fresh : take n at ≡ positionsFrom 0 n
+  fresh : take n at ≡ positionsFrom 0 n
   fresh = ap (take n) wrote ∙ take-at (positionsFrom 0 n) (drop n old) n (length-positions 0 n)
 
   pub fresh-within : Within n (take n at)
   fresh-within = let z : 0 + n ≡ n = omega arith in subst (λ (xs : List ℕ). Within n xs) (sym fresh) (rw z at (within-positions 0 n))
+
+  pub fresh-rounds : (pt : ℕ → SphericalPoint) (closed : Bool) (a : Answer (List ℕ)) → a ≡ simplified pt closed (take n at)
+      → a ≡ simplified pt closed (positionsFrom 0 n)
+  fresh-rounds pt closed a h = h ∙ ap (simplified pt closed) fresh
 
 -- ---- the positions that are left
 
@@ -68,61 +72,54 @@ module _ (v : List Float) (closed : Bool) (at : List ℕ) (left : Written)
 
 -- ---- with numbers
 
-module _ (v : List Float) (bs : List ℕ) (closed : Bool) (old : List Float) (oldBuoys : List ℕ) (k : Checked) (number : checkNumber k ≡ stringCheck v bs) where
+module _ (v : List Float) (bs : List ℕ) (closed : Bool) (old : List Float) (oldBuoys : List ℕ) where
   abbrev Done : Answer (List Vertex)
   Done = simplify v bs closed (length old) (length oldBuoys)
 
-  pub simplify-refused : (e : Refusal) → k ≡ Refused e → Leaves old oldBuoys Done (refused (refusalNumber e)) old oldBuoys
+  pub simplify-refused : (k : Checked) (e : Refusal) → checkNumber k ≡ stringCheck v bs → k ≡ Refused e
+      → Leaves old oldBuoys Done (refused (refusalNumber e)) old oldBuoys
   unfolding simplify lent
-  simplify-refused e told = left-refused old oldBuoys Done (refusalNumber e) (answer-refused k e (stringCheck v bs) _ told number)
+  simplify-refused k e number told = left-refused old oldBuoys Done (refusalNumber e) (answer-refused k e (stringCheck v bs) _ told number)
 
-  module _ (told : k ≡ Accepted) where
-    passed : stringCheck v bs ≡ 0
-    passed = sym number ∙ ap checkNumber told
+  module _ (accepted : stringCheck v bs ≡ 0) (at : List ℕ) (left : Written)
+      (rounds : held left at ≡ simplified (pointAt v) closed (positionsFrom 0 (length v / 3))) where
+    done-by : (a : Answer (List ℕ)) → held left at ≡ a → andThen (mapAnswer (map (vertexAt v bs)) a) (intoRooms (length old) (length oldBuoys)) ≡ Done
+    unfolding simplify lent
+    done-by a h =
+        let whole : length v ≡ 3 * (length v / 3) = stored-whole v (string-stored v bs accepted) .triples in
+        ap (λ (x : Answer (List Vertex)). andThen x (intoRooms (length old) (length oldBuoys)))
+        (ap (mapAnswer (map (vertexAt v bs))) (sym h) ∙ left-vertices v closed at left rounds whole bs (as-many-buoys v bs accepted))
+        ∙ sym (pass (stringCheck v bs) _ accepted)
 
-    pub string-accepted : storedCheck v ≡ 0
-    string-accepted = string-stored v bs passed
+    pub simplify-past-end : (e : Refusal) → left ≡ W.Refused e → Leaves old oldBuoys Done (writtenAnswer left) old oldBuoys
+    simplify-past-end e h =
+        let l = left-refused old oldBuoys Done (refusalNumber e) (done-by (refused (refusalNumber e)) (ap (λ (w : Written). held w at) h)) in
+        (ap writtenAnswer h ∙ l .0, l .1)
 
-    pub same-buoys : length bs ≡ length v / 3
-    same-buoys = as-many-buoys v bs passed
+    module _ (n : ℕ) (h : left ≡ W.Vertices n) (room : n ≤ length at) where
+      abbrev vs : List Vertex
+      vs = map (vertexAt v bs) (take n at)
 
-    module _ (at : List ℕ) (left : Written) (rounds : held left at ≡ simplified (pointAt v) closed (positionsFrom 0 (length v / 3))) where
-      done-by : (a : Answer (List ℕ)) → held left at ≡ a → andThen (mapAnswer (map (vertexAt v bs)) a) (intoRooms (length old) (length oldBuoys)) ≡ Done
-      unfolding simplify lent
-      done-by a h =
-          ap (λ (x : Answer (List Vertex)). andThen x (intoRooms (length old) (length oldBuoys)))
-          (ap (mapAnswer (map (vertexAt v bs))) (sym h) ∙ left-vertices v closed at left rounds (stored-whole v string-accepted .triples) bs same-buoys)
-          ∙ answer-accepted k (stringCheck v bs) _ told number
+      long : length vs ≡ n
+      long = length-map (take n at) (vertexAt v bs) ∙ length-take-le n at room
 
-      pub simplify-past-end : (e : Refusal) → left ≡ W.Refused e → Leaves old oldBuoys Done (writtenAnswer left) old oldBuoys
-      simplify-past-end e h =
-          let l = left-refused old oldBuoys Done (refusalNumber e) (done-by (refused (refusalNumber e)) (ap (λ (w : Written). held w at) h)) in
-          (ap writtenAnswer h ∙ l .0, l .1)
+      into : intoRooms (length old) (length oldBuoys) vs ≡ Done
+      into = done-by (answered (take n at)) (ap (λ (w : Written). held w at) h)
 
-      module _ (n : ℕ) (h : left ≡ W.Vertices n) (room : n ≤ length at) where
-        abbrev vs : List Vertex
-        vs = map (vertexAt v bs) (take n at)
+      pub simplify-no-room : ltb (length old) (3 * n) || ltb (length oldBuoys) n ≡ true → Leaves old oldBuoys Done (refused 7) old oldBuoys
+      simplify-no-room t = left-refused old oldBuoys Done 7 (sym (no-rooms (length old) (length oldBuoys) vs n long t) ∙ into)
 
-        long : length vs ≡ n
-        long = length-map (take n at) (vertexAt v bs) ∙ length-take-le n at room
-
-        into : intoRooms (length old) (length oldBuoys) vs ≡ Done
-        into = done-by (answered (take n at)) (ap (λ (w : Written). held w at) h)
-
-        pub simplify-no-room : ltb (length old) (3 * n) || ltb (length oldBuoys) n ≡ true → Leaves old oldBuoys Done (refused 7) old oldBuoys
-        simplify-no-room t = left-refused old oldBuoys Done 7 (sym (no-rooms (length old) (length oldBuoys) vs n long t) ∙ into)
-
-        pub simplify-done : (out : List Float) (outBuoys : List ℕ) → ltb (length old) (3 * n) || ltb (length oldBuoys) n ≡ false
-            → out ≡ flat (map (pointAt v) (take n at)) ++ drop (3 * length (take n at)) old
-            → outBuoys ≡ map (buoyAt bs) (take n at) ++ drop (length (take n at)) oldBuoys
-            → Leaves old oldBuoys Done (answered n) out outBuoys
-        simplify-done out outBuoys t w u =
-            let l : length (take n at) ≡ n = length-take-le n at room in
-            left-written old oldBuoys Done vs n (map (pointAt v) (take n at)) (map (buoyAt bs) (take n at)) out outBuoys
-            (sym (rooms-enough (length old) (length oldBuoys) vs n long t) ∙ into) long
-            (map-map placeOf (vertexAt v bs) (take n at)) (map-map (λ (x : Vertex). x .buoy) (vertexAt v bs) (take n at))
-            (w ∙ ap (λ (m : ℕ). flat (map (pointAt v) (take n at)) ++ drop (3 * m) old) l)
-            (u ∙ ap (λ (m : ℕ). map (buoyAt bs) (take n at) ++ drop m oldBuoys) l)
+      pub simplify-done : (out : List Float) (outBuoys : List ℕ) → ltb (length old) (3 * n) || ltb (length oldBuoys) n ≡ false
+          → out ≡ flat (map (pointAt v) (take n at)) ++ drop (3 * length (take n at)) old
+          → outBuoys ≡ map (buoyAt bs) (take n at) ++ drop (length (take n at)) oldBuoys
+          → Leaves old oldBuoys Done (answered n) out outBuoys
+      simplify-done out outBuoys t w u =
+          let l : length (take n at) ≡ n = length-take-le n at room in
+          left-written old oldBuoys Done vs n (map (pointAt v) (take n at)) (map (buoyAt bs) (take n at)) out outBuoys
+          (sym (rooms-enough (length old) (length oldBuoys) vs n long t) ∙ into) long
+          (map-map placeOf (vertexAt v bs) (take n at)) (map-map (λ (x : Vertex). x .buoy) (vertexAt v bs) (take n at))
+          (w ∙ ap (λ (m : ℕ). flat (map (pointAt v) (take n at)) ++ drop (3 * m) old) l)
+          (u ∙ ap (λ (m : ℕ). map (buoyAt bs) (take n at) ++ drop m oldBuoys) l)
 
 -- ---- the points alone
 

@@ -7,7 +7,7 @@ ghost use lib.ListN.{length, take};
 ghost use Rattle.arcstring.specs.Answer.{leaves};
 ghost use Rattle.arcstring.specs.Points.{pointAt};
 ghost use Rattle.arcstring.specs.Positions.{Within, positionsFrom};
-ghost use Rattle.arcstring.specs.Check.{storedCheck};
+ghost use Rattle.arcstring.specs.Check.{stringCheck};
 ghost use Rattle.arcstring.specs.Walk.{writtenAnswer, writtenResult, writtenFloats, withoutBuoys, writtenBuoys};
 ghost use Rattle.arcstring.specs.Work.{held, heldCount};
 ghost use Rattle.arcstring_simplify.specs.Simplify.{thirdPosition, unnecessaryPositions, removeAll, simplified, simplifyPoints};
@@ -36,11 +36,11 @@ fn unnecessary(v: &[f64], at: &[usize], k: usize) -> bool
     let this = at[k];
     let t = third_position(k, at.len());
     let third = at[t];
-    sphericalpoint::xyzs_coplanar(
-        vertex::vertex_at(v, before),
-        vertex::vertex_at(v, this),
-        vertex::vertex_at(v, third),
-    )
+    // The coordinates go to the test in registers.
+    let a = vertex::vertex_at(v, before);
+    let b = vertex::vertex_at(v, this);
+    let c = vertex::vertex_at(v, third);
+    sphericalpoint::coplanar_of(a.x, a.y, a.z, b.x, b.y, b.z, c.x, c.y, c.z)
 }
 
 // Position 0, and position k + skip for each k from 1 on whose vertex is not judged unnecessary.
@@ -88,7 +88,7 @@ fn simplify_rounds(
     closed: bool,
     next: &mut [usize],
 ) -> Written
-    requires { ⌜ Within (length (now v) / 3) (take n (now at)) × (n ≤ 1024) × (length (now at) ≡ 1024) × (length (now next) ≡ 1024) ⌝ }
+    requires { ⌜ Within (length (now v) / 3) (take n (now at)) × (n ≤ length (now at)) × (n ≤ length (now next)) ⌝ }
     ensures { λ r. ⌜ (held r (now (at .exit)) ≡ simplified (pointAt (now (v .entry))) closed (take n (now (at .entry)))) × (heldCount r ≤ n) ⌝ }
 {
     let mut m = n;
@@ -106,15 +106,14 @@ fn simplify_rounds(
     Written::Vertices(m)
 }
 
-// The positions of the vertices of an accepted string that are left, at the start of `at`.
-fn simplify_positions(v: &[f64], closed: bool, at: &mut [usize]) -> Written
-    requires { ⌜ (storedCheck (now v) ≡ 0) × (length (now at) ≡ 1024) ⌝ }
+// The positions of the vertices that are left, at the start of `at`.
+fn simplify_positions(v: &[f64], closed: bool, at: &mut [usize], next: &mut [usize]) -> Written
+    requires { ⌜ (length (now v) / 3 ≤ length (now at)) × (length (now v) / 3 ≤ length (now next)) ⌝ }
     ensures { λ r. ⌜ (held r (now (at .exit)) ≡ simplified (pointAt (now (v .entry))) closed (positionsFrom 0 (length (now (v .entry)) / 3))) × (heldCount r ≤ length (now (v .entry)) / 3) ⌝ }
 {
     let n = v.len() / 3;
-    let mut next = [0; 1024];
     vertex::positions(n, at);
-    simplify_rounds(v, at, n, closed, &mut next)
+    simplify_rounds(v, at, n, closed, next)
 }
 
 // The points alone, for calls that are lent no numbers. Refuses by 1, 3 and 4 of the vertices, by 5 and by 7.
@@ -127,7 +126,8 @@ pub(crate) fn simplify_points(v: &[f64], closed: bool, out: &mut [f64]) -> Writt
         return Written::Refused(e);
     }
     let mut at = [0; 1024];
-    let left = simplify_positions(v, closed, &mut at);
+    let mut next = [0; 1024];
+    let left = simplify_positions(v, closed, &mut at, &mut next);
     let Written::Vertices(n) = left else {
         return left;
     };
@@ -138,8 +138,36 @@ pub(crate) fn simplify_points(v: &[f64], closed: bool, out: &mut [f64]) -> Writt
     Written::Vertices(n)
 }
 
+// An accepted string, simplified in lists of positions that are lent.
+fn simplify_in(
+    v: &[f64],
+    buoys: &[u32],
+    closed: bool,
+    at: &mut [usize],
+    next: &mut [usize],
+    out: &mut [f64],
+    out_buoys: &mut [u32],
+) -> Written
+    requires { ⌜ (stringCheck (now v) (now buoys) ≡ 0) × (length (now v) / 3 ≤ length (now at)) × (length (now v) / 3 ≤ length (now next)) ⌝ }
+    ensures { λ r. ⌜ writtenAnswer r ≡ writtenResult (Simplify.simplify (now (v .entry)) (now (buoys .entry)) closed (length (now (out .entry))) (length (now («out_buoys» .entry)))) ⌝ }
+    ensures { λ _. ⌜ now (out .exit) ≡ leaves (writtenFloats (withoutBuoys (Simplify.simplify (now (v .entry)) (now (buoys .entry)) closed (length (now (out .entry))) (length (now («out_buoys» .entry)))))) (now (out .entry)) ⌝ }
+    ensures { λ _. ⌜ now («out_buoys» .exit) ≡ leaves (writtenBuoys (Simplify.simplify (now (v .entry)) (now (buoys .entry)) closed (length (now (out .entry))) (length (now («out_buoys» .entry))))) (now («out_buoys» .entry)) ⌝ }
+{
+    let left = simplify_positions(v, closed, at, next);
+    let Written::Vertices(n) = left else {
+        return left;
+    };
+    if (out.len() < 3 * n) | (out_buoys.len() < n) {
+        return Written::Refused(Refusal::NoRoom);
+    }
+    vertex::gather_vertices(v, &at[..n], out);
+    vertex::gather_buoys(buoys, &at[..n], out_buoys);
+    Written::Vertices(n)
+}
+
 // The string without the vertices that lie along it, as the source judges them; each number stays with its vertex. Flag and
 // near list stay. Refuses by 1, 10, 3 and 4 of the vertices, by 5 where a removal lies past the end, and by 7.
+// The lists are set to zero first, which for a short string would take longer than its rounds: so there are two sizes.
 pub fn simplify(
     v: &[f64],
     buoys: &[u32],
@@ -155,15 +183,12 @@ pub fn simplify(
     if let Checked::Refused(e) = checked {
         return Written::Refused(e);
     }
-    let mut at = [0; 1024];
-    let left = simplify_positions(v, closed, &mut at);
-    let Written::Vertices(n) = left else {
-        return left;
-    };
-    if (out.len() < 3 * n) | (out_buoys.len() < n) {
-        return Written::Refused(Refusal::NoRoom);
+    if v.len() <= 192 {
+        let mut at = [0; 64];
+        let mut next = [0; 64];
+        return simplify_in(v, buoys, closed, &mut at, &mut next, out, out_buoys);
     }
-    vertex::gather_vertices(v, &at[..n], out);
-    vertex::gather_buoys(buoys, &at[..n], out_buoys);
-    Written::Vertices(n)
+    let mut at = [0; 1024];
+    let mut next = [0; 1024];
+    simplify_in(v, buoys, closed, &mut at, &mut next, out, out_buoys)
 }

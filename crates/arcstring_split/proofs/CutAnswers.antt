@@ -63,7 +63,7 @@ module _ (z : Vertex) (zs : List Vertex) (i : ℕ) (work : List Float) (buoys co
 
   module _ (counts' : List ℕ) (fits : at + (x + y) + (total - (at + old)) ≤ 1024)
       (c : counts' ≡ splice counts k (x ∷ y ∷ take (m - (k + 1)) (drop (k + 1) counts))) where
-    pub cut-within : (fresh work' : List Float) (numbers buoys' flags' : List ℕ) → 3 * (x + y) ≤ length fresh → x + y ≤ length numbers →
+    pub cut-within : (fresh work' : List Float) (numbers buoys' flags' : List ℕ) → length fresh ≡ 6150 → length numbers ≡ 2050 → x + y ≤ 2050 →
         take (x + y) (numbered (points fresh) numbers) ≡ first .vertices ++ second .vertices →
         work' ≡ splice work (3 * at) (take (3 * (x + y)) fresh ++ take (3 * (total - (at + old))) (drop (3 * (at + old)) work)) →
         buoys' ≡ splice buoys at (take (x + y) numbers ++ take (total - (at + old)) (drop (at + old) buoys)) →
@@ -72,14 +72,14 @@ module _ (z : Vertex) (zs : List Vertex) (i : ℕ) (work : List Float) (buoys co
         (answered (firstPieces (m + 1) work' buoys' counts' flags') ≡ cutAt placeOf builtNumbered z zs k i (firstPieces m work buoys counts flags))
         × (Stands (m + 1) work' buoys' counts' flags' × (take k counts' ≡ take k counts))
     unfolding cutAt
-    cut-within fresh work' numbers buoys' flags' room space built w u fl lw lb lc lf =
+    cut-within fresh work' numbers buoys' flags' room space most built w u fl lw lb lc lf =
         let us = first .vertices in
         let vs = second .vertices in
         let a = first .closed in
         let b = second .closed in
         let held : firstPieces (m + 1) work' buoys' counts' flags' ≡ cut =
         cut-held work buoys counts flags m stands k h at total old starts all there us vs a b x y f g fresh work' numbers buoys' counts' flags' (one .0)
-        (two .0) fits c (one .1) (two .1) room space built w u fl
+        (two .0) fits c (one .1) (two .1) (omega arith) (omega arith) built w u fl
         ∙ ap₂ (cutIn work buoys counts flags m stands k h) (built-piece (firstPoints z zs i)) (built-piece (secondPoints z zs i)) in
         let small : k ≤ length counts = let r = stands .counts-room in let q = stands .pieces in omega arith in (
           ap answered held ∙ sym (at-most-limit (pointsIn cut) cut (omega (arith, size-of-cut))),

@@ -14,7 +14,6 @@ use Rattle.arcstring.specs.Points.{StringOf, numbered, placeOf, placesOf, point
 use Rattle.arcstring.specs.Build.{builtNumbered}
 use Rattle.arcstring.proofs.Flat.{length-points}
 use Rattle.arcstring.proofs.Numbered.{all-places}
-use Rattle.arcstring_crossing.specs.Crossing.{Leg}
 use Rattle.arcstring_crossing.specs.Tally.{legAt, legCount}
 use Rattle.arcstring_relation.specs.OnString.{alongLeg}
 use Rattle.arcstring_split.specs.declared.split.Cut.{Cut}
@@ -129,15 +128,15 @@ abbrev pub legStep : Vertex → List Float → List ℕ → ℕ → ℕ → List
 legStep x v bs k = cutAtLeg placeOf builtNumbered x (numbered (points v) bs) k
 
 -- b whether the point is along the leg
-module _ (x : Vertex) (v : List Float) (bs : List ℕ) (k i : ℕ) (arc : Leg) (b : Bool) (whole : length v ≡ 3 * length bs) (h : i < length bs)
-    (leg : arc ≡ legAt v (length bs) i) (test : b ≡ alongLeg (placeOf x) arc) where
+module _ (x : Vertex) (v : List Float) (bs : List ℕ) (k i : ℕ) (b : Bool) (whole : length v ≡ 3 * length bs) (h : i < length bs)
+    (test : b ≡ alongLeg (placeOf x) (legAt v (length bs) i)) where
   abbrev xs : List Vertex
   xs = numbered (points v) bs
 
   along : alongLeg (placeOf x) (legFrom (placesOf xs) i) ≡ b
   along =
       ap (λ (ps : List SphericalPoint). alongLeg (placeOf x) (legFrom ps i)) (all-places (points v) bs (sym (length-points (length bs) v whole)))
-      ∙ sym (test ∙ ap (alongLeg (placeOf x)) (leg ∙ leg-from v (length bs) i whole h))
+      ∙ sym (test ∙ ap (alongLeg (placeOf x)) (leg-from v (length bs) i whole h))
 
   by-leg : (t : Bool) (ss : List (StringOf Vertex)) → b ≡ t → legStep x v bs k i ss ≡ pick t (cutAt placeOf builtNumbered x xs k i ss) (answered ss)
   unfolding cutAtLeg

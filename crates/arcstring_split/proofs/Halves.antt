@@ -232,17 +232,3 @@ halves-built v w bs cs i j us ws m n p q old mid base part rest olds mids bases 
         ),
       ),
     )
-
--- ---- rooms
-
--- the part of a list from a on has room for so many
-pub part-room : {A : Type 0} (v : List A) (a needed : ℕ) → a + needed ≤ length v → needed ≤ length (take (length v - a) (drop a v))
-part-room v a needed h = omega (arith, length-take (length v - a) (drop a v), length-drop a v)
-
--- a piece may be built of the first k vertices of two lists
-pub piece-room : (v : List Float) (bs : List ℕ) (k room buoyRoom : ℕ) → 3 * k ≤ length v → k ≤ length bs → 2 ≤ k → 3 * k ≤ room → k ≤ buoyRoom
-    → (length (take (3 * k) v) ≡ 3 * length (take k bs)) × (2 ≤ length (take k bs)) × (3 * length (take k bs) ≤ room) × (length (take k bs) ≤ buoyRoom)
-piece-room v bs k room buoyRoom known same two enough all =
-    let f = length-take-le (3 * k) v known in
-    let l = length-take-le k bs same in
-    (omega arith, omega arith, omega arith, omega arith)

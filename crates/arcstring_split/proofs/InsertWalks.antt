@@ -12,7 +12,6 @@ use Rattle.arcstring.specs.Answer.{Answer, refused, answered, andThen, pick}
 use Rattle.arcstring.specs.Points.{placeOf}
 use Rattle.arcstring.specs.Splice.{splice}
 use Rattle.arcstring.proofs.Answers.{then-answered, then-refused}
-use Rattle.arcstring_crossing.specs.Crossing.{Leg}
 use Rattle.arcstring_crossing.specs.Tally.{legAt, legCount}
 use Rattle.arcstring_relation.specs.OnString.{alongLeg}
 use Rattle.arcstring_split.specs.Steps.{legFrom, limited}
@@ -38,7 +37,7 @@ module _ (x : Vertex) (k : ℕ) (xs : List Vertex) where
   unfolding insertWalk
   walk-done = refl
 
--- ---- the loop: m vertices stand at the start of w and bs, the leg l starts at k, b whether the point is along it; the walk from there on is the whole answer
+-- ---- the loop: m vertices stand at the start of w and bs, a leg starts at k, b whether the point is along it; the walk from there on is the whole answer
 
 module _ (x : Vertex) (w : List Float) (bs : List ℕ) (m k legs i : ℕ) (whole : Answer (List Vertex))
     (rest : insertWalk placeOf x k (legs - i) (firstVertices m w bs) ≡ whole) where
@@ -58,12 +57,12 @@ module _ (x : Vertex) (w : List Float) (bs : List ℕ) (m k legs i : ℕ) (whole
       let e : legs - i ≡ 0 = omega arith in
       sym (walk-done x k vs) ∙ ap (λ (j : ℕ). insertWalk placeOf x k j vs) (sym e) ∙ rest
 
-  module _ (l : Leg) (b : Bool) (more : i < legs) (room : 3 * m ≤ length w) (many : m ≤ length bs) (within : k < m)
-      (read : l ≡ legAt (take (3 * m) w) m k) (tested : b ≡ alongLeg (x .place) l) where
+  module _ (b : Bool) (more : i < legs) (room : 3 * m ≤ length w) (many : m ≤ length bs) (within : k < m)
+      (tested : b ≡ alongLeg (x .place) (legAt (take (3 * m) w) m k)) where
     along-by : (t : Bool) → b ≡ t → alongLeg (x .place) (legFrom (map placeOf vs) k) ≡ t
     along-by t e =
         ap (λ (ps : List SphericalPoint). alongLeg (x .place) (legFrom ps k)) (places-first m w bs room many)
-        ∙ ap (alongLeg (x .place)) (sym (read ∙ leg-from-first w m k room within)) ∙ sym tested ∙ e
+        ∙ ap (alongLeg (x .place)) (sym (leg-from-first w m k room within)) ∙ sym tested ∙ e
 
     next-by : (t : Bool) → b ≡ t → pick t (after x k vs (legs - (i + 1))) (insertWalk placeOf x (k + 1) (legs - (i + 1)) vs) ≡ whole
     next-by t e =
@@ -100,3 +99,15 @@ walk-begin x w bs n legs closed room many count =
     let e : legs - 0 ≡ legs = omega arith in
     ap (λ (j : ℕ). insertWalk placeOf x 0 j (firstVertices n w bs))
     (e ∙ count ∙ ap (λ (m : ℕ). legCount m closed) (sym (length-vertices n w bs room many)))
+
+-- ---- the numbers of the walk: m vertices stand in lists of 1,024, leg i of `legs` starts at k
+
+module _ (legs i k m room buoyRoom : ℕ) (more : i < legs) (ahead : k + (legs - i) ≤ m) (most : m ≤ 1024) (wide : room ≡ 3072) (long : buoyRoom ≡ 1024) where
+  pub leg-within : (3 * m ≤ room) × (m ≤ buoyRoom) × (k < m)
+  leg-within = (omega arith, omega arith, omega arith)
+
+  pub past-numbers : (i + 1 ≤ legs) × (k + 1 + (legs - (i + 1)) ≤ m)
+  past-numbers = (omega arith, omega arith)
+
+  pub on-numbers : (m ≡ 1024 → ⊥) → (i + 1 ≤ legs) × (k + 2 + (legs - (i + 1)) ≤ m + 1) × (m + 1 ≤ 1024) × (m < 1024)
+  on-numbers some = (omega arith, omega arith, omega arith, omega arith)

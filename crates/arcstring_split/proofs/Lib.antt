@@ -20,6 +20,7 @@ mod Sums
 mod Runs
 mod Replaced
 mod Halves
+mod Rooms
 mod Pieces
 mod Cuts
 mod CutLists

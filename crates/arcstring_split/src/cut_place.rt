@@ -180,7 +180,7 @@ fn cut_legs_of(
     let mut more = m;
     let mut i = 0;
     while i < legs {
-        if !on_string::along_leg(x.place, tally::leg_at(copy, n, i)) {
+        if !on_string::along_leg_at(x.place, copy, n, i) {
             i += 1;
             continue;
         }

@@ -60,7 +60,7 @@ fn insert_point(work: &mut [f64], buoys: &mut [u32], n: usize, closed: bool, x: 
     while i < legs {
         i += 1;
         let end = 3 * m;
-        if !on_string::along_leg(x.place, tally::leg_at(&work[..end], m, k)) {
+        if !on_string::along_leg_at(x.place, &work[..end], m, k) {
             k += 1;
             continue;
         }

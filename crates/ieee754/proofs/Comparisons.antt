@@ -40,7 +40,7 @@ below-zero-r true false b = refl
 below-zero-r false true b = ap (ltb 0) (add-zero b)
 below-zero-r true true b = refl
 
-lt-zero-l : (s : Bool) (e : ℤ) (t : Bool) (n : ℕ) (d : ℤ) → lt (fin s 0 e) (fin t n d) ≡ (not t && ltb 0 (n * up d))
+pub lt-zero-l : (s : Bool) (e : ℤ) (t : Bool) (n : ℕ) (d : ℤ) → lt (fin s 0 e) (fin t n d) ≡ (not t && ltb 0 (n * up d))
 unfolding lt
 lt-zero-l s e t n d =
     ap (λ (a : ℕ). below s a t (n * up d * down e)) (zero-times (up e) (down d))

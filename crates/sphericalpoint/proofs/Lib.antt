@@ -2,3 +2,4 @@ pub mod Tolerances
 mod Sizes
 mod Cases
 mod Magnitudes
+mod FarOff

@@ -2,8 +2,11 @@
 // with the source's names. A point goes by value; each float operation is rounded once, in the source's order.
 // Every function takes any floats, infinities and NaN among them.
 ghost use mathlib.Core.Path.{_≡_};
+ghost use mathlib.Core.Bool.{true, false, cond};
+ghost use lib.Ieee.{binary64, div, lt};
 ghost use Rattle.ieee754.specs.Size.{abs};
 ghost use Rattle.ieee754.specs.Value.{value};
+ghost use Rattle.sphericalpoint.specs.Vector.{coplanarTolerance};
 ghost use Rattle.sphericalpoint.specs.Vector.{xyzAdd, xyzSub, xyzMul, xyzDiv, xyzNeg, xyzAbs, xyzSum, xyzDot, xyzCross, xyzLength, xyzEq, normalized};
 ghost use Rattle.sphericalpoint.specs.Point.{normalizedUnlessShort, pointFrom, betweenInPlane, betweenEnds, xyzsCoplanar};
 
@@ -215,21 +218,73 @@ fn between_ends(a: SphericalPoint, b: SphericalPoint, c: SphericalPoint) -> bool
     (xyz_dot(a, c) >= ab) & (xyz_dot(b, c) >= ab) & (ab > -1.0 + SphericalPoint::COPLANAR_TOLERANCE)
 }
 
-// Whether a and b or b and c are equal, or c lies on the leg from a to b. Callers pass the point that they ask
-// about as b: the source does so, and its answers are kept.
-pub fn xyzs_coplanar(a: SphericalPoint, b: SphericalPoint, c: SphericalPoint) -> bool
-    ensures { λ r. ⌜ r ≡ xyzsCoplanar a b c ⌝ }
+// Whether c is so far off the plane with this normal that no root is needed to tell. Where the square of the normal's length is at most 16, the
+// length is at most 4, and a fourth of 1e-7 is above the tolerance. In range the square is always that small: coordinates are from -1 to 1.
+fn far_off_plane(c: SphericalPoint, normal: SphericalPoint) -> bool
+    ensures { λ r. ⌜ (r ≡ true → lt (xyzLength normal) coplanarTolerance ≡ false
+        → lt (div binary64 (abs (xyzDot c normal)) (xyzLength normal)) coplanarTolerance ≡ false) ⌝ }
 {
-    if xyz_eq(a, b) | xyz_eq(b, c) {
-        return true;
+    (magnitude(xyz_dot(c, normal)) >= 1e-7) & (xyz_dot(normal, normal) <= 16.0)
+}
+
+// Whether c lies on the leg from a to b, for ends that have a plane. What is cheap and says no to most points comes first.
+fn on_leg(a: SphericalPoint, b: SphericalPoint, c: SphericalPoint) -> bool
+    ensures { λ r. ⌜ r ≡ cond (lt (xyzLength (xyzCross a b)) coplanarTolerance) false (betweenInPlane a b c (xyzCross a b) (xyzLength (xyzCross a b))) ⌝ }
+{
+    let normal = xyz_cross(a, b);
+    if far_off_plane(c, normal) {
+        return false;
     }
     if !between_ends(a, b, c) {
         return false;
     }
-    let normal = xyz_cross(a, b);
     let normal_length = length_of(normal.x, normal.y, normal.z);
     if normal_length < SphericalPoint::COPLANAR_TOLERANCE {
         return false;
     }
     between_in_plane(a, b, c, normal, normal_length)
+}
+
+// The test below by coordinates, which go to it in registers: it is too long to become part of its callers, and with points, which go through
+// memory, on-string tests took more than twice the time (docs/DECISIONS.md).
+pub fn coplanar_of(
+    ax: f64,
+    ay: f64,
+    az: f64,
+    bx: f64,
+    by: f64,
+    bz: f64,
+    cx: f64,
+    cy: f64,
+    cz: f64,
+) -> bool
+    ensures { λ r. ⌜ r ≡ xyzsCoplanar (record { x = ax; y = ay; z = az }) (record { x = bx; y = by; z = bz }) (record { x = cx; y = cy; z = cz }) ⌝ }
+{
+    let a = SphericalPoint {
+        x: ax,
+        y: ay,
+        z: az,
+    };
+    let b = SphericalPoint {
+        x: bx,
+        y: by,
+        z: bz,
+    };
+    let c = SphericalPoint {
+        x: cx,
+        y: cy,
+        z: cz,
+    };
+    if xyz_eq(a, b) | xyz_eq(b, c) {
+        return true;
+    }
+    on_leg(a, b, c)
+}
+
+// Whether a and b or b and c are equal, or c lies on the leg from a to b. Callers pass the point that they ask
+// about as b: the source does so, and its answers are kept.
+pub fn xyzs_coplanar(a: SphericalPoint, b: SphericalPoint, c: SphericalPoint) -> bool
+    ensures { λ r. ⌜ r ≡ xyzsCoplanar a b c ⌝ }
+{
+    coplanar_of(a.x, a.y, a.z, b.x, b.y, b.z, c.x, c.y, c.z)
 }

@@ -8,7 +8,7 @@ use Rattle.arcstring.specs.Points.{points, flat}
 use Rattle.arcstring.specs.Splice.{splice}
 use Rattle.arcstring.specs.Build.{normalizedAll}
 use Rattle.arcstring.proofs.Splices.{splice-nothing}
-use Rattle.arcstring.proofs.Moves.{map-step, map-all}
+use Rattle.arcstring.proofs.Moves.{map-step-in-place, map-all}
 use Rattle.arcstring.proofs.build.normalize_points.Statement.{statement}
 use Rattle.arcstring.proofs.build.normalize_points.Tie as tie
 
@@ -40,14 +40,18 @@ loop-again : tie.Need-loop-again Inv-loop μ-loop
 loop-again c = let put = c .before .before .put-vertex in
     let norm = c .before .before .before .normalize-unless-short in
     let read = c .before .before .before .before .before .vertex-at in
-    let d = c .before .before .before .before .before .before .before .before in
-    (omega arith, put .kept .0 ∙ d .loop .inv .1, map-step normalizedUnlessShort (d .loop .i) _ _ _ _ (omega arith) (d .loop .inv .2) (norm .ensures ∙ ap normalizedUnlessShort (read .ensures)) (put .ensures))
+    let d = c .before .before .before .before .before .before .before .before in (
+      omega arith,
+      put .kept .0 ∙ d .loop .inv .1,
+      map-step-in-place normalizedUnlessShort (d .loop .i) _ _ _ _ (omega arith) (d .loop .inv .2) (norm .ensures ∙ ap normalizedUnlessShort (read .ensures))
+          (put .ensures),
+    )
 
 same-length : tie.Need-same-length Inv-loop μ-loop
 same-length c = c .before .loop .inv .1
 
 returns : tie.Need-returns Inv-loop μ-loop
-returns c = map-all normalizedUnlessShort _ (c .before .loop .i) _ _ (c .before .before .before .pre) (omega arith) (c .before .loop .inv .2)
+returns c = map-all normalizedUnlessShort _ _ (c .before .loop .i) _ _ (c .before .before .before .pre) (omega arith) (c .before .loop .inv .2)
 
 pub normalize-points-spec : {M : Type 1} → statement M
 normalize-points-spec =

@@ -17,16 +17,14 @@ abbrev μ-loop : tie.MeasureT-loop
 loop-holds : tie.Need-loop-holds Inv-loop μ-loop
 loop-holds c = refl
 
-leg-at-requires : tie.Need-leg-at-requires Inv-loop μ-loop
-leg-at-requires c κs = search needs
-
-along-leg-requires : tie.Need-along-leg-requires Inv-loop μ-loop
-along-leg-requires c κs = search needs
+along-leg-at-requires : tie.Need-along-leg-at-requires Inv-loop μ-loop
+along-leg-at-requires c κs = search needs
 
 returns : tie.Need-returns Inv-loop μ-loop
-returns c = let d = c .before .before .before .before in
+returns c = let d = c .before .before .before in
     let s = d .before .before in
-    along-here _ (s .args .v .now) _ (s .pre .0) _ _ _ _ (c .before .before .before .loop-test .taken) (s .pre .1) (c .before .before .leg-at .ensures) (c .before .along-leg .ensures) (c .if1 .taken) ∙ d .loop .inv
+    along-here _ (s .args .v .now) _ (s .pre .0) _ _ _ (c .before .before .loop-test .taken) (s .pre .1) (c .before .along-leg-at .ensures) (c .if1 .taken)
+    ∙ d .loop .inv
 
 add-k : tie.Need-add-k Inv-loop μ-loop
 add-k c = search needs
@@ -35,9 +33,10 @@ loop-less : tie.Need-loop-less Inv-loop μ-loop
 loop-less c = search needs
 
 loop-again : tie.Need-loop-again Inv-loop μ-loop
-loop-again c = let d = c .before .before .before .before in
+loop-again c = let d = c .before .before .before in
     let s = d .before .before in
-    along-later _ (s .args .v .now) _ (s .pre .0) _ _ _ _ (c .before .before .before .loop-test .taken) (s .pre .1) (c .before .before .leg-at .ensures) (c .before .along-leg .ensures) (c .if1 .left) ∙ d .loop .inv
+    along-later _ (s .args .v .now) _ (s .pre .0) _ _ _ (c .before .before .loop-test .taken) (s .pre .1) (c .before .along-leg-at .ensures) (c .if1 .left)
+    ∙ d .loop .inv
 
 returns-2 : tie.Need-returns-2 Inv-loop μ-loop
 returns-2 c = along-none _ (c .before .before .before .args .v .now) _ _ (c .loop-test .left) ∙ c .before .loop .inv
@@ -49,8 +48,7 @@ along-some-leg-spec =
     Inv-loop
     μ-loop
     loop-holds
-    leg-at-requires
-    along-leg-requires
+    along-leg-at-requires
     returns
     add-k
     loop-less

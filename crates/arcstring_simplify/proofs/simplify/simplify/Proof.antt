@@ -1,36 +1,17 @@
--- `simplify` answers as its check does, and else gathers what stands at the positions that the rounds leave. Assumes nothing.
-use mathlib.Core.Path.{_≡_, refl, sym, subst}
-use Prim.Native.Nat.{ℕ, _≤_, _/_}
+-- `simplify` answers as its check does, and else as `simplify_in` does, in lists of either size. Assumes nothing.
+use mathlib.Core.Path.{_≡_, sym, ap, _∙_}
 use native.Mathlib.Omega.{arith}
-use lib.ListN.{length, take}
-use lib.Seq.{length-take-le}
-use Rattle.arcstring.specs.Positions.{Within}
-use Rattle.arcstring.proofs.Checks.{stored-whole}
-use Rattle.arcstring.proofs.Written.{both-fit}
-use Rattle.arcstring_simplify.proofs.RoundSteps.{written-at-most}
-use Rattle.arcstring_simplify.proofs.Simplifies.{left-within, simplify-refused, string-accepted, same-buoys}
-use Rattle.arcstring_simplify.proofs.Simplifies.{simplify-past-end, simplify-no-room, simplify-done}
+use Rattle.arcstring.specs.Check.{checkNumber, stringCheck}
+use Rattle.arcstring.proofs.Checks.{stored-whole, string-stored}
+use Rattle.arcstring_simplify.proofs.Simplifies.{simplify-refused}
 use borrow.Author.Needs.{needs}
 use Rattle.arcstring_simplify.proofs.simplify.simplify.Statement.{statement}
 use Rattle.arcstring_simplify.proofs.simplify.simplify.Tie as tie
 
--- the local list keeps its length
-size : (c : tie.After-left) → length (c .before .before .before .simplify-positions .last .1 .1 .0) ≡ 1024
-size c = c .before .before .before .simplify-positions .kept .1 .1 .0
-
--- no more positions are left than there are vertices, and they stand in the list
-few : (c : tie.After-left) → c .left .given .0 .0
-    ≤ length (c .before .before .before .before .before .before .before .before .before .before .before .before .args .v .now) / 3
-few c = written-at-most _ _ _ (c .left .given .1) (c .before .before .before .simplify-positions .ensures .1)
-
-room : (c : tie.After-left) → c .left .given .0 .0 ≤ length (c .before .before .before .simplify-positions .last .1 .1 .0)
-room c = let sp = c .before .before .before in
-    let et = sp .before .before in
-    let f = et .before .before in
-    let s = f .before .before .before .before .before in
-    let accepted = string-accepted (s .args .v .now) (s .args .buoys .now) (s .args .closed) (s .args .out .now) (s .args .out-buoys .now)
-    _ (f .check-string .ensures) (et .enum-told .given .1) in
-    omega (arith, size c, few c, stored-whole (s .args .v .now) accepted .at-most)
+-- past the check the string is accepted
+accepted : (c : tie.After-enum-told)
+    → let s = c .before .before .before .before .before .before .before in stringCheck (s .args .v .now) (s .args .buoys .now) ≡ 0
+accepted c = sym (c .before .before .check-string .ensures) ∙ ap checkNumber (c .enum-told .given .1)
 
 check-string-requires : tie.Need-check-string-requires
 check-string-requires c κs = search needs
@@ -42,87 +23,20 @@ returns : tie.Need-returns
 returns c = let f = c .before .before .before in
     let s = f .before .before .before .before .before in
     simplify-refused (s .args .v .now) (s .args .buoys .now) (s .args .closed) (s .args .out .now) (s .args .out-buoys .now)
-    _ (f .check-string .ensures) _ (c .before .checked .given .1)
+    _ _ (f .check-string .ensures) (c .before .checked .given .1)
 
 enum-told : tie.Need-enum-told
 enum-told c = search needs
 
-slice-aggregate-simplify-positions : tie.Need-slice-aggregate-simplify-positions
-slice-aggregate-simplify-positions c = search needs
+slice-aggregate-simplify-in : tie.Need-slice-aggregate-simplify-in
+slice-aggregate-simplify-in c = search needs
 
-simplify-positions-requires : tie.Need-simplify-positions-requires
-simplify-positions-requires c κs = let f = c .before .before .before in
-    let s = f .before .before .before .before .before in (
-      string-accepted (s .args .v .now) (s .args .buoys .now) (s .args .closed) (s .args .out .now) (s .args .out-buoys .now) _
-          (f .check-string .ensures) (c .before .enum-told .given .1),
-      refl,
-    )
+slice-aggregate-simplify-in-2 : tie.Need-slice-aggregate-simplify-in-2
+slice-aggregate-simplify-in-2 c = search needs
 
-enum-known-left : tie.Need-enum-known-left
-enum-known-left c = search needs
-
-enum-told-2 : tie.Need-enum-told-2
-enum-told-2 c = search needs
-
-returns-2 : tie.Need-returns-2
-returns-2 c = let sp = c .before .before .before in
-    let et = sp .before .before in
-    let f = et .before .before in
-    let s = f .before .before .before .before .before in
-    simplify-past-end (s .args .v .now) (s .args .buoys .now) (s .args .closed) (s .args .out .now) (s .args .out-buoys .now)
-    _ (f .check-string .ensures) (et .enum-told .given .1) _ _ (sp .simplify-positions .ensures .0) _ (c .enum-told2 .given .1)
-
-mul-if1 : tie.Need-mul-if1
-mul-if1 c = omega (arith, few (c .before))
-
-returns-3 : tie.Need-returns-3
-returns-3 c = let sp = c .before .before .before .before .before in
-    let et = sp .before .before in
-    let f = et .before .before in
-    let s = f .before .before .before .before .before in
-    let al = c .before .before in
-    simplify-no-room (s .args .v .now) (s .args .buoys .now) (s .args .closed) (s .args .out .now) (s .args .out-buoys .now)
-    _ (f .check-string .ensures) (et .enum-told .given .1) _ _ (sp .simplify-positions .ensures .0) _ (al .left .given .1) (room al) (c .if1 .taken)
-
-array-share-prefix-at : tie.Need-array-share-prefix-at
-array-share-prefix-at c = let al = c .before .before in omega (arith, room al, size al)
-
-slice-aggregate-gather-vertices : tie.Need-slice-aggregate-gather-vertices
-slice-aggregate-gather-vertices c = sym (length-take-le _ _ (array-share-prefix-at (c .before)))
-
-gather-vertices-requires : tie.Need-gather-vertices-requires
-gather-vertices-requires c κs = let sp = c .before .before .before .before .before .before .before in
-    let et = sp .before .before in
-    let f = et .before .before in
-    let s = f .before .before .before .before .before in
-    let al = c .before .before .before .before in
-    let l = length-take-le (al .left .given .0 .0) (sp .simplify-positions .last .1 .1 .0) (room al) in (
-      left-within (s .args .v .now) (s .args .closed) (sp .simplify-positions .last .1 .1 .0) (sp .simplify-positions .result)
-          (sp .simplify-positions .ensures .0) (al .left .given .0 .0) (al .left .given .1),
-      omega (arith, l, both-fit (length (s .args .out .now)) (length (s .args .out-buoys .now)) (al .left .given .0 .0) (c .before .before .if1 .left) .0),
-    )
-
-array-share-prefix-at-2 : tie.Need-array-share-prefix-at-2
-array-share-prefix-at-2 c = let al = c .before .before .before .before .before .before .before in omega (arith, room al, size al)
-
-slice-aggregate-gather-buoys : tie.Need-slice-aggregate-gather-buoys
-slice-aggregate-gather-buoys c = sym (length-take-le _ _ (array-share-prefix-at-2 (c .before)))
-
-gather-buoys-requires : tie.Need-gather-buoys-requires
-gather-buoys-requires c κs = let el = c .before .before .before .before .before .before .before in
-    let al = el .before .before in
-    let sp = al .before .before .before in
-    let et = sp .before .before in
-    let f = et .before .before in
-    let s = f .before .before .before .before .before in
-    let l = length-take-le (al .left .given .0 .0) (sp .simplify-positions .last .1 .1 .0) (room al) in (
-      subst (λ (m : ℕ). Within m (take (al .left .given .0 .0) (sp .simplify-positions .last .1 .1 .0)))
-          (sym (same-buoys (s .args .v .now) (s .args .buoys .now) (s .args .closed) (s .args .out .now) (s .args .out-buoys .now) _
-          (f .check-string .ensures) (et .enum-told .given .1)))
-          (left-within (s .args .v .now) (s .args .closed) (sp .simplify-positions .last .1 .1 .0) (sp .simplify-positions .result)
-          (sp .simplify-positions .ensures .0) (al .left .given .0 .0) (al .left .given .1)),
-      omega (arith, l, both-fit (length (s .args .out .now)) (length (s .args .out-buoys .now)) (al .left .given .0 .0) (el .if1 .left) .1),
-    )
+-- 192 floats at most are 64 vertices at most
+simplify-in-requires : tie.Need-simplify-in-requires
+simplify-in-requires c κs = (accepted (c .before .before .before .before .before), omega arith, omega arith)
 
 same-length : tie.Need-same-length
 same-length c = search needs
@@ -130,18 +44,29 @@ same-length c = search needs
 same-length-2 : tie.Need-same-length-2
 same-length-2 c = search needs
 
-returns-4 : tie.Need-returns-4
-returns-4 c = let gb = c .before .before in
-    let gv = gb .before .before .before .before .before in
-    let el = gv .before .before .before in
-    let al = el .before .before in
-    let sp = al .before .before .before in
-    let et = sp .before .before in
-    let f = et .before .before in
-    let s = f .before .before .before .before .before in
-    simplify-done (s .args .v .now) (s .args .buoys .now) (s .args .closed) (s .args .out .now) (s .args .out-buoys .now)
-    _ (f .check-string .ensures) (et .enum-told .given .1) _ _ (sp .simplify-positions .ensures .0) _ (al .left .given .1)
-    (room al) _ _ (el .if1 .left) (gv .gather-vertices .ensures) (gb .gather-buoys .ensures)
+returns-2 : tie.Need-returns-2
+returns-2 c = search needs
+
+slice-aggregate-simplify-in-3 : tie.Need-slice-aggregate-simplify-in-3
+slice-aggregate-simplify-in-3 c = search needs
+
+slice-aggregate-simplify-in-4 : tie.Need-slice-aggregate-simplify-in-4
+slice-aggregate-simplify-in-4 c = search needs
+
+simplify-in-requires-2 : tie.Need-simplify-in-requires-2
+simplify-in-requires-2 c κs = let et = c .before .before .before .before .before in
+    let s = et .before .before .before .before .before .before .before in
+    let most = stored-whole (s .args .v .now) (string-stored (s .args .v .now) (s .args .buoys .now) (accepted et)) .at-most in
+    (accepted et, most, most)
+
+same-length-3 : tie.Need-same-length-3
+same-length-3 c = search needs
+
+same-length-4 : tie.Need-same-length-4
+same-length-4 c = search needs
+
+returns-3 : tie.Need-returns-3
+returns-3 c = search needs
 
 pub simplify-spec : {M : Type 1} → statement M
 simplify-spec =
@@ -151,19 +76,15 @@ simplify-spec =
     enum-known-checked
     returns
     enum-told
-    slice-aggregate-simplify-positions
-    simplify-positions-requires
-    enum-known-left
-    enum-told-2
-    returns-2
-    mul-if1
-    returns-3
-    array-share-prefix-at
-    slice-aggregate-gather-vertices
-    gather-vertices-requires
-    array-share-prefix-at-2
-    slice-aggregate-gather-buoys
-    gather-buoys-requires
+    slice-aggregate-simplify-in
+    slice-aggregate-simplify-in-2
+    simplify-in-requires
     same-length
     same-length-2
-    returns-4)
+    returns-2
+    slice-aggregate-simplify-in-3
+    slice-aggregate-simplify-in-4
+    simplify-in-requires-2
+    same-length-3
+    same-length-4
+    returns-3)

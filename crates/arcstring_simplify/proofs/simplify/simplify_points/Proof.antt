@@ -1,5 +1,5 @@
 -- `simplify_points` answers as its check does, and else gathers what stands at the positions that the rounds leave. Assumes nothing.
-use mathlib.Core.Path.{_≡_, refl, sym}
+use mathlib.Core.Path.{_≡_, sym}
 use Prim.Native.Nat.{_≤_, _/_}
 use native.Mathlib.Omega.{arith}
 use lib.ListN.{length}
@@ -11,17 +11,18 @@ use borrow.Author.Needs.{needs}
 use Rattle.arcstring_simplify.proofs.simplify.simplify_points.Statement.{statement}
 use Rattle.arcstring_simplify.proofs.simplify.simplify_points.Tie as tie
 
--- the local list keeps its length
-size : (c : tie.After-left) → length (c .before .before .before .simplify-positions .last .1 .1 .0) ≡ 1024
-size c = c .before .before .before .simplify-positions .kept .1 .1 .0
+-- the list of positions keeps its length
+size : (c : tie.After-left) → length (c .before .before .before .before .simplify-positions .last .1 .1 .0) ≡ 1024
+size c = c .before .before .before .before .simplify-positions .kept .1 .1 .0
 
 -- no more positions are left than there are vertices, and they stand in the list
-few : (c : tie.After-left) → c .left .given .0 .0 ≤ length (c .before .before .before .before .before .before .before .before .before .before .args .v .now) / 3
-few c = written-at-most _ _ _ (c .left .given .1) (c .before .before .before .simplify-positions .ensures .1)
+few : (c : tie.After-left) → c .left .given .0 .0
+    ≤ length (c .before .before .before .before .before .before .before .before .before .before .before .before .args .v .now) / 3
+few c = written-at-most _ _ _ (c .left .given .1) (c .before .before .before .before .simplify-positions .ensures .1)
 
-room : (c : tie.After-left) → c .left .given .0 .0 ≤ length (c .before .before .before .simplify-positions .last .1 .1 .0)
-room c = let sp = c .before .before .before in
-    let et = sp .before .before in
+room : (c : tie.After-left) → c .left .given .0 .0 ≤ length (c .before .before .before .before .simplify-positions .last .1 .1 .0)
+room c = let sp = c .before .before .before .before in
+    let et = sp .before .before .before in
     let f = et .before .before in
     let s = f .before .before .before in
     let accepted = points-accepted (s .args .v .now) (s .args .closed) (s .args .out .now) _ (f .check-stored .ensures) (et .enum-told .given .1) in
@@ -44,10 +45,16 @@ enum-told c = search needs
 slice-aggregate-simplify-positions : tie.Need-slice-aggregate-simplify-positions
 slice-aggregate-simplify-positions c = search needs
 
+slice-aggregate-simplify-positions-2 : tie.Need-slice-aggregate-simplify-positions-2
+slice-aggregate-simplify-positions-2 c = search needs
+
 simplify-positions-requires : tie.Need-simplify-positions-requires
-simplify-positions-requires c κs = let f = c .before .before .before in
+simplify-positions-requires c κs = let et = c .before .before in
+    let f = et .before .before in
     let s = f .before .before .before in
-    (points-accepted (s .args .v .now) (s .args .closed) (s .args .out .now) _ (f .check-stored .ensures) (c .before .enum-told .given .1), refl)
+    let accepted = points-accepted (s .args .v .now) (s .args .closed) (s .args .out .now) _ (f .check-stored .ensures) (et .enum-told .given .1) in
+    let most = stored-whole (s .args .v .now) accepted .at-most in
+    (most, most)
 
 enum-known-left : tie.Need-enum-known-left
 enum-known-left c = search needs
@@ -56,8 +63,8 @@ enum-told-2 : tie.Need-enum-told-2
 enum-told-2 c = search needs
 
 returns-2 : tie.Need-returns-2
-returns-2 c = let sp = c .before .before .before in
-    let et = sp .before .before in
+returns-2 c = let sp = c .before .before .before .before in
+    let et = sp .before .before .before in
     let f = et .before .before in
     let s = f .before .before .before in
     points-past-end (s .args .v .now) (s .args .closed) (s .args .out .now) _ (f .check-stored .ensures) (et .enum-told .given .1)
@@ -67,8 +74,8 @@ mul-if1 : tie.Need-mul-if1
 mul-if1 c = omega (arith, few (c .before))
 
 returns-3 : tie.Need-returns-3
-returns-3 c = let sp = c .before .before .before .before .before in
-    let et = sp .before .before in
+returns-3 c = let sp = c .before .before .before .before .before .before in
+    let et = sp .before .before .before in
     let f = et .before .before in
     let s = f .before .before .before in
     let al = c .before .before in
@@ -82,8 +89,8 @@ slice-aggregate-gather-vertices : tie.Need-slice-aggregate-gather-vertices
 slice-aggregate-gather-vertices c = sym (length-take-le _ _ (array-share-prefix-at (c .before)))
 
 gather-vertices-requires : tie.Need-gather-vertices-requires
-gather-vertices-requires c κs = let sp = c .before .before .before .before .before .before .before in
-    let et = sp .before .before in
+gather-vertices-requires c κs = let sp = c .before .before .before .before .before .before .before .before in
+    let et = sp .before .before .before in
     let f = et .before .before in
     let s = f .before .before .before in
     let al = c .before .before .before .before in
@@ -100,8 +107,8 @@ returns-4 : tie.Need-returns-4
 returns-4 c = let gv = c .before .before in
     let el = gv .before .before .before in
     let al = el .before .before in
-    let sp = al .before .before .before in
-    let et = sp .before .before in
+    let sp = al .before .before .before .before in
+    let et = sp .before .before .before in
     let f = et .before .before in
     let s = f .before .before .before in
     points-done (s .args .v .now) (s .args .closed) (s .args .out .now) _ (f .check-stored .ensures) (et .enum-told .given .1)
@@ -116,6 +123,7 @@ simplify-points-spec =
     returns
     enum-told
     slice-aggregate-simplify-positions
+    slice-aggregate-simplify-positions-2
     simplify-positions-requires
     enum-known-left
     enum-told-2

@@ -42,8 +42,8 @@ vertex-at-requires-3 c κs = let tp = c .before .before .before in
     let s = tp .before .before .before .before .before in
     omega (arith, s .pre .0 (tp .third-position .result) (tp .third-position .ensures .1))
 
-xyzs-coplanar-requires : tie.Need-xyzs-coplanar-requires
-xyzs-coplanar-requires c κs = search needs
+coplanar-of-requires : tie.Need-coplanar-of-requires
+coplanar-of-requires c κs = search needs
 
 returns : tie.Need-returns
 returns c = let tp = c .before .before .before .before .before in
@@ -51,7 +51,7 @@ returns c = let tp = c .before .before .before .before .before in
     let third = tp .third-position .ensures in
     judged (pointAt (s .args .v .now)) 0 (s .args .at .now) (s .args .k) _ _ _ _ _ (s .pre .2) (s .pre .3)
     (third .0) (third .1) (c .before .before .before .vertex-at .ensures) (c .before .before .vertex-at2 .ensures)
-    (c .before .vertex-at3 .ensures) (c .xyzs-coplanar .ensures)
+    (c .before .vertex-at3 .ensures) (c .coplanar-of .ensures)
 
 pub unnecessary-spec : {M : Type 1} → statement M
 unnecessary-spec =
@@ -68,5 +68,5 @@ unnecessary-spec =
     vertex-at-requires
     vertex-at-requires-2
     vertex-at-requires-3
-    xyzs-coplanar-requires
+    coplanar-of-requires
     returns)

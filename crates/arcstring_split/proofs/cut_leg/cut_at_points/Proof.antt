@@ -3,7 +3,6 @@ use mathlib.Core.Path.{_≡_, refl, _∙_}
 use Prim.Native.Nat.{_≤_, _-_, _*_}
 use native.Mathlib.Omega.{arith}
 use lib.ListN.{length, drop}
-use borrow.Author.Needs.{needs}
 use Rattle.arcstring.specs.Points.{points}
 use Rattle.arcstring.specs.Work.{firstOfList}
 use Rattle.arcstring_split.specs.Steps.{forEach}
@@ -30,10 +29,10 @@ cut-legs-requires : tie.Need-cut-legs-requires Inv-loop μ-loop
 cut-legs-requires c κs = let d = c .before .before .before in (d .loop .inv .1, omega arith)
 
 enum-known-cut : tie.Need-enum-known-cut Inv-loop μ-loop
-enum-known-cut c = search needs
+enum-known-cut c = omega arith
 
 enum-told : tie.Need-enum-told Inv-loop μ-loop
-enum-told c = search needs
+enum-told c = omega arith
 
 same-length : tie.Need-same-length Inv-loop μ-loop
 same-length c = c .before .before .before .before .cut-legs .kept .0 ∙ c .before .before .before .before .before .before .before .before .loop .inv .2

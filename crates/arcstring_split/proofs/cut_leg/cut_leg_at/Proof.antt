@@ -3,25 +3,24 @@ use Prim.Native.Nat.{_<_}
 use native.Mathlib.Omega.{arith}
 use borrow.Author.Tests.{not-true, not-false}
 use Rattle.arcstring_split.proofs.LegCuts.{place-uncut, place-full, place-cut}
-use borrow.Author.Needs.{needs}
 use Rattle.arcstring_split.proofs.cut_leg.cut_leg_at.Statement.{statement}
 use Rattle.arcstring_split.proofs.cut_leg.cut_leg_at.Tie as tie
 
 leg-of-pair-requires : tie.Need-leg-of-pair-requires
-leg-of-pair-requires c κs = search needs
+leg-of-pair-requires c κs = omega arith
 
 cuts-leg-requires : tie.Need-cuts-leg-requires
-cuts-leg-requires c κs = search needs
+cuts-leg-requires c κs = omega arith
 
 same-length : tie.Need-same-length
-same-length c = search needs
+same-length c = omega arith
 
 returns : tie.Need-returns
 returns c = let s = c .before .before .before .before .before in
     (place-uncut (s .args .p) (s .args .work .now) (s .args .m) (s .args .k) _ _ (s .pre .0) (omega arith) (c .before .before .leg-of-pair .ensures) (c .before .cuts-leg .ensures) (not-true _ (c .if1 .taken)), s .pre .1)
 
 same-length-2 : tie.Need-same-length-2
-same-length-2 c = search needs
+same-length-2 c = omega arith
 
 returns-2 : tie.Need-returns-2
 returns-2 c = let d = c .before .before in
@@ -29,46 +28,46 @@ returns-2 c = let d = c .before .before in
     (place-full (s .args .p) (s .args .work .now) (s .args .m) (s .args .k) _ _ (s .pre .0) (omega arith) (d .before .leg-of-pair .ensures) (d .cuts-leg .ensures) (not-false _ (c .before .if1 .left)) (c .if2 .taken), omega arith)
 
 mul-put-vertex : tie.Need-mul-put-vertex
-mul-put-vertex c = search needs
+mul-put-vertex c = omega arith
 
 add-put-vertex : tie.Need-add-put-vertex
-add-put-vertex c = search needs
+add-put-vertex c = omega arith
 
 put-vertex-requires : tie.Need-put-vertex-requires
-put-vertex-requires c κs = search needs
+put-vertex-requires c κs = omega arith
 
 mul-insert-vertex : tie.Need-mul-insert-vertex
-mul-insert-vertex c = search needs
+mul-insert-vertex c = omega arith
 
 mul-insert-vertex-2 : tie.Need-mul-insert-vertex-2
-mul-insert-vertex-2 c = search needs
+mul-insert-vertex-2 c = omega arith
 
 add-insert-vertex : tie.Need-add-insert-vertex
-add-insert-vertex c = search needs
+add-insert-vertex c = omega arith
 
 insert-vertex-requires : tie.Need-insert-vertex-requires
-insert-vertex-requires c κs = search needs
+insert-vertex-requires c κs = omega arith
 
 mul-insert-vertex-3 : tie.Need-mul-insert-vertex-3
-mul-insert-vertex-3 c = search needs
+mul-insert-vertex-3 c = omega arith
 
 add-insert-vertex-2 : tie.Need-add-insert-vertex-2
-add-insert-vertex-2 c = search needs
+add-insert-vertex-2 c = omega arith
 
 mul-insert-vertex-4 : tie.Need-mul-insert-vertex-4
-mul-insert-vertex-4 c = search needs
+mul-insert-vertex-4 c = omega arith
 
 add-insert-vertex-3 : tie.Need-add-insert-vertex-3
-add-insert-vertex-3 c = search needs
+add-insert-vertex-3 c = omega arith
 
 insert-vertex-requires-2 : tie.Need-insert-vertex-requires-2
-insert-vertex-requires-2 c κs = search needs
+insert-vertex-requires-2 c κs = omega arith
 
 add-t18 : tie.Need-add-t18
-add-t18 c = search needs
+add-t18 c = omega arith
 
 same-length-3 : tie.Need-same-length-3
-same-length-3 c = search needs
+same-length-3 c = omega arith
 
 returns-3 : tie.Need-returns-3
 returns-3 c = let twice = c .before .before in

@@ -3,7 +3,6 @@ use mathlib.Core.Path.{_≡_, refl, _∙_}
 use Prim.Native.Nat.{_≤_, _-_, _*_}
 use native.Mathlib.Omega.{arith}
 use lib.ListN.{length}
-use borrow.Author.Needs.{needs}
 use Rattle.arcstring.specs.Work.{firstOfList}
 use Rattle.arcstring_split.specs.Steps.{forPositions}
 use Rattle.arcstring_split.specs.Pieces.{legsOf}
@@ -26,10 +25,10 @@ cut-leg-at-requires : tie.Need-cut-leg-at-requires Inv-loop μ-loop
 cut-leg-at-requires c κs = omega arith
 
 enum-known-cut : tie.Need-enum-known-cut Inv-loop μ-loop
-enum-known-cut c = search needs
+enum-known-cut c = omega arith
 
 enum-told : tie.Need-enum-told Inv-loop μ-loop
-enum-told c = search needs
+enum-told c = omega arith
 
 same-length : tie.Need-same-length Inv-loop μ-loop
 same-length c = c .before .before .before .before .cut-leg-at .kept .0 ∙ c .before .before .before .before .before .before .before .loop .inv .3

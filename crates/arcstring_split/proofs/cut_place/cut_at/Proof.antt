@@ -1,13 +1,14 @@
 -- `cut_at` refuses where all pieces together would be over the limit, and else writes two pieces in the place of one. Assumes nothing.
-use mathlib.Core.Path.{refl}
+use mathlib.Core.Path.{refl, sym}
 use Prim.Native.Nat.{_+_, _≤_, _<_}
+use native.Mathlib.Nat.{le-refl}
 use native.Mathlib.Omega.{arith}
 use lib.ListN.{getD, take}
 use Rattle.arcstring.specs.Points.{numbered, points}
 use Rattle.arcstring_split.specs.Pieces.{sum}
 use Rattle.arcstring_split.proofs.CutLists.{all-points, cut-few}
+use Rattle.arcstring_split.proofs.Rooms.{at-most, next-fits, old-fits, old-within, size-fits, all-fits, float-rooms, buoy-rooms}
 use Rattle.arcstring_split.proofs.CutAnswers.{none-stand, cut-over, cut-within}
-use borrow.Author.Needs.{needs}
 use Rattle.arcstring_split.proofs.cut_place.cut_at.Statement.{statement}
 use Rattle.arcstring_split.proofs.cut_place.cut_at.Tie as tie
 
@@ -18,135 +19,129 @@ place s = let a = s .args in
     let all = all-points (a .work .now) (a .buoys .now) (a .counts .now) (a .flags .now) (a .m) (s .pre .5) (a .k) (s .pre .3) in
     (omega (arith, s .pre .4), s .pre .5 .limit)
 
+-- where the two pieces are built, and the function's entry, from the test of how many points there would be
+abbrev built : tie.After-slice-known5 → tie.After-build-halves
+built c = c .before .before .before .before .before .before .before .before .before
+
+abbrev entry : tie.After-slice-known5 → tie.Start
+entry c = built c .before .before .before .before .before .before .before .before .before
+
 -- so there is room for one piece more
-few : (c : tie.Else1) → c .before .before .before .before .before .before .before .before .before .before .before .before .before .before .before .before
-    .before .before .before .args .m < 1024
-few c = let built = c .before .before .before .before .before .before .before .before .before .before .build-halves in
-    let s = c .before .before .before .before .before .before .before .before .before .before .before .before .before .before .before .before .before .before
-    .before in
+few : (c : tie.Else1) → entry (c .before) .args .m < 1024
+few c = let halves = built (c .before) .build-halves in
+    let s = entry (c .before) in
     let a = s .args in
     cut-few (a .work .now) (a .buoys .now) (a .counts .now) (a .flags .now) (a .m) (s .pre .5) (a .k) (s .pre .3) (a .at) _ _ (s .pre .4)
-    (c .before .before .sum-of .ensures) refl _ _ (c .if1 .left) (built .ensures .0 .2) (built .ensures .1 .0 .2)
+    (c .before .before .sum-of .ensures) refl _ _ (c .if1 .left) (halves .ensures .0 .2) (halves .ensures .1 .0 .2)
 
 slice-aggregate-build-halves : tie.Need-slice-aggregate-build-halves
-slice-aggregate-build-halves c = search needs
+slice-aggregate-build-halves c = omega arith
 
 slice-aggregate-build-halves-2 : tie.Need-slice-aggregate-build-halves-2
-slice-aggregate-build-halves-2 c = search needs
+slice-aggregate-build-halves-2 c = omega arith
 
 build-halves-requires : tie.Need-build-halves-requires
-build-halves-requires c κs = search needs
+build-halves-requires c κs = omega arith
 
 add-size : tie.Need-add-size
-add-size c = search needs
+add-size c = omega arith
 
 sum-of-requires : tie.Need-sum-of-requires
-sum-of-requires c κs = search needs
+sum-of-requires c κs = let s = c .before .before .before .before .before .before .before .before .before .before .before .before .before .before .before
+    .before in (at-most (s .args .m) _ _ (s .pre .5 .pieces) (s .pre .5 .counts-room), s .pre .5 .limit)
 
 mul-old : tie.Need-mul-old
-mul-old c = search needs
+mul-old c = omega arith
 
 slice-read-old : tie.Need-slice-read-old
-slice-read-old c = search needs
+slice-read-old c = omega arith
 
 add-if1 : tie.Need-add-if1
-add-if1 c = let f = place (c .before .before .before .before .before .before .before .before .before .before .before .before .before .before .before .before
-    .before .before) in omega arith
+add-if1 c = let s = entry c in
+    let f = place s in
+    size-fits (s .args .at) _ _ _ (f .0) (f .1) (c .before .sum-of .ensures) _ (built c .build-halves .ensures .1 .1 .1)
 
 add-if1-2 : tie.Need-add-if1-2
-add-if1-2 c = let f = place (c .before .before .before .before .before .before .before .before .before .before .before .before .before .before .before .before
-    .before .before) in omega arith
+add-if1-2 c = let s = entry c in
+    let f = place s in
+    old-fits (s .args .at) _ _ _ (f .0) (f .1) (c .before .sum-of .ensures)
 
 sub-if1 : tie.Need-sub-if1
-sub-if1 c = let f = place (c .before .before .before .before .before .before .before .before .before .before .before .before .before .before .before .before
-    .before .before) in omega (arith, c .before .sum-of .ensures)
+sub-if1 c = let s = entry c in
+    let f = place s in
+    old-within (s .args .at) _ _ _ (f .0) (f .1) (c .before .sum-of .ensures)
 
 add-if1-3 : tie.Need-add-if1-3
-add-if1-3 c = let f = place (c .before .before .before .before .before .before .before .before .before .before .before .before .before .before .before .before
-    .before .before) in omega (arith, c .before .sum-of .ensures)
+add-if1-3 c = let s = entry c in
+    let f = place s in
+    all-fits (s .args .at) _ _ _ (f .0) (f .1) (c .before .sum-of .ensures) _ (built c .build-halves .ensures .1 .1 .1)
 
 same-length : tie.Need-same-length
-same-length c = search needs
+same-length c = refl
 
 returns : tie.Need-returns
-returns c = let built = c .before .before .before .before .before .before .before .before .before .before .build-halves in
-    let s = c .before .before .before .before .before .before .before .before .before .before .before .before .before .before .before .before .before .before
-    .before in
+returns c = let halves = built (c .before) .build-halves in
+    let s = entry (c .before) in
     let a = s .args in (
       cut-over (a .x) (numbered (points (a .copy .now)) (a .copy-buoys .now)) (a .i) (a .work .now) (a .buoys .now) (a .counts .now) (a .flags .now) (a .m)
-          (s .pre .5) (a .k) (s .pre .3) (a .at) _ _ (s .pre .4) (c .before .before .sum-of .ensures) refl _ _ _ _ (built .ensures .0) (built .ensures .1 .0)
-          (c .if1 .taken),
+          (s .pre .5) (a .k) (s .pre .3) (a .at) _ _ (s .pre .4) (c .before .before .sum-of .ensures) refl _ _ _ _ (halves .ensures .0)
+          (halves .ensures .1 .0) (c .if1 .taken),
       (none-stand (a .work .now) (a .buoys .now) (a .counts .now) (a .flags .now) (a .m) (s .pre .5), refl),
     )
 
 slice-aggregate-replace-run : tie.Need-slice-aggregate-replace-run
-slice-aggregate-replace-run c = search needs
+slice-aggregate-replace-run c = sym (built (c .before .before .before) .build-halves .kept .1 .1 .1 .1 .0)
 
 replace-run-requires : tie.Need-replace-run-requires
-replace-run-requires c κs = let f = place (c .before .before .before .before .before .before .before .before .before .before .before .before .before .before
-    .before .before .before .before .before .before .before) in let t = c .before .before .before .before .sum-of .ensures in
-    (omega arith, omega arith, omega arith, omega arith)
+replace-run-requires c κs = let e = c .before .before in
+    let s = entry (e .before) in
+    let f = place s in
+    float-rooms (s .args .at) _ _ _ (f .0) (f .1) (e .before .before .sum-of .ensures) _ (e .if1 .left) _ _ (s .pre .5 .floats)
+    (built (e .before) .build-halves .kept .1 .1 .1 .1 .0)
 
 slice-aggregate-replace-buoys : tie.Need-slice-aggregate-replace-buoys
-slice-aggregate-replace-buoys c = search needs
+slice-aggregate-replace-buoys c = sym (built (c .before .before .before .before .before .before .before .before .before) .build-halves .kept .1 .1 .1 .1 .1 .0)
 
 replace-buoys-requires : tie.Need-replace-buoys-requires
-replace-buoys-requires c κs = let f = place (c .before .before .before .before .before .before .before .before .before .before .before .before .before .before
-    .before .before .before .before .before .before .before .before .before .before .before .before .before) in let t = c .before .before .before .before
-    .before .before .before .before .before .before .sum-of .ensures in let l = c .before .before .before .before .before .before .before .before .before
-    .before .before .before .before .before .before .before .before .before .before .before .before .before .before .before .before .before .before .pre .5
-    .buoys-room in (omega arith, omega arith, omega arith, omega arith)
+replace-buoys-requires c κs = let e = c .before .before .before .before .before .before .before .before in
+    let s = entry (e .before) in
+    let f = place s in
+    buoy-rooms (s .args .at) _ _ _ (f .0) (f .1) (e .before .before .sum-of .ensures) _ (e .if1 .left) _ _ (s .pre .5 .buoys-room)
+    (built (e .before) .build-halves .kept .1 .1 .1 .1 .1 .0)
 
 replace-number-requires : tie.Need-replace-number-requires
-replace-number-requires c κs = let s = c .before .before .before .before .before .before .before .before .before .before .before .before .before .before
-    .before .before .before .before .before .before .before .before .before .before .before .before .before .before .before .before .before .before in (
-      s .pre .3,
-      omega (
-        arith,
-        few (c .before .before .before .before .before .before .before .before .before .before .before .before .before),
-        s .pre .5
-            .counts-room,
-      ),
-    )
+replace-number-requires c κs = let e = c .before .before .before .before .before .before .before .before .before .before .before .before .before in
+    let s = entry (e .before) in
+    (s .pre .3, at-most _ _ _ (few e) (s .pre .5 .counts-room))
 
 replace-number-requires-2 : tie.Need-replace-number-requires-2
-replace-number-requires-2 c κs = let s = c .before .before .before .before .before .before .before .before .before .before .before .before .before .before
-    .before .before .before .before .before .before .before .before .before .before .before .before .before .before .before .before .before .before .before
-    .before .before .before in (
-      s .pre .3,
-      omega (
-        arith,
-        few (c .before .before .before .before .before .before .before .before .before .before .before .before
-            .before .before .before .before .before),
-        s .pre .5 .flags-room,
-      ),
-    )
+replace-number-requires-2 c κs = let e = c .before .before .before .before .before .before .before .before .before .before .before .before .before .before
+    .before .before .before in
+    let s = entry (e .before) in
+    (s .pre .3, at-most _ _ _ (few e) (s .pre .5 .flags-room))
 
 add-t26 : tie.Need-add-t26
-add-t26 c = omega (
-  arith,
-  few (c .before .before .before .before .before .before .before .before .before .before .before .before .before .before .before
-      .before .before .before .before .before),
-)
+add-t26 c = let e = c .before .before .before .before .before .before .before .before .before .before .before .before .before .before .before .before .before
+    .before .before .before in next-fits _ 1024 (few e) (le-refl 1024)
 
 same-length-2 : tie.Need-same-length-2
-same-length-2 c = search needs
+same-length-2 c = c .before .before .before .before .before .before .before .before .before .before .before .before .before .before .before .before .before
+    .replace-run .kept .0
 
 same-length-3 : tie.Need-same-length-3
-same-length-3 c = search needs
+same-length-3 c = c .before .before .before .before .before .before .before .before .before .before .before .replace-buoys .kept .0
 
 same-length-4 : tie.Need-same-length-4
-same-length-4 c = search needs
+same-length-4 c = c .before .before .before .before .before .before .replace-number .kept .0
 
 same-length-5 : tie.Need-same-length-5
-same-length-5 c = search needs
+same-length-5 c = c .before .before .replace-number2 .kept .0
 
 returns-2 : tie.Need-returns-2
-returns-2 c = let e = c .before .before .before .before .before .before .before .before .before .before .before .before .before .before .before .before .before
-    .before .before .before in
-    let built = e .before .before .before .before .before .before .before .before .before .before .build-halves in
-    let s = e .before .before .before .before .before .before .before .before .before .before .before .before .before .before .before .before .before .before
-    .before in
+returns-2 c = let e = c .before .before .before .before .before .before .before .before .before .before .before .before .before .before .before .before
+    .before .before .before .before in
+    let halves = built (e .before) .build-halves in
+    let s = entry (e .before) in
     let a = s .args in
     let run = c .before .before .before .before .before .before .before .before .before .before .before .before .before .before .before .before .before
     .replace-run in
@@ -154,10 +149,13 @@ returns-2 c = let e = c .before .before .before .before .before .before .before 
     let numbers = c .before .before .before .before .before .before .replace-number in
     let marks = c .before .before .replace-number2 in
     cut-within (a .x) (numbered (points (a .copy .now)) (a .copy-buoys .now)) (a .i) (a .work .now) (a .buoys .now) (a .counts .now) (a .flags .now) (a .m)
-    (s .pre .5) (a .k) (s .pre .3) (a .at) _ _ (s .pre .4) (e .before .before .sum-of .ensures) refl _ _ _ _ (built .ensures .0) (built .ensures .1 .0) _
-    (e .if1 .left) (numbers .ensures) _ _ _ _ _ (omega (arith, built .ensures .1 .1 .1, built .kept .1 .1 .1 .1 .0))
-    (omega (arith, built .ensures .1 .1 .1, built .kept .1 .1 .1 .1 .1 .0)) (built .ensures .1 .1 .0) (run .ensures) (carried .ensures) (marks .ensures)
-    (run .kept .0) (carried .kept .0) (numbers .kept .0) (marks .kept .0)
+    (s .pre .5) (a .k) (s .pre .3) (a .at) (e .before .before .sum-of .result) (getD (a .counts .now) (a .k) 0) (s .pre .4) (e .before .before .sum-of
+    .ensures) refl
+    (halves .result .first .count) (halves .result .second .count) (halves .result .first .flag) (halves .result .second .flag) (halves .ensures .0)
+    (halves .ensures .1 .0) (numbers .last .0) (e .if1 .left) (numbers .ensures) (halves .last .1 .1 .1 .1 .0) (run .last .0)
+    (halves .last .1 .1 .1 .1 .1 .0) (carried .last .0) (marks .last .0) (halves .kept .1 .1 .1 .1 .0) (halves .kept .1 .1 .1 .1 .1 .0)
+    (halves .ensures .1 .1 .1) (halves .ensures .1 .1 .0) (run .ensures) (carried .ensures) (marks .ensures) (run .kept .0) (carried .kept .0)
+    (numbers .kept .0) (marks .kept .0)
 
 pub cut-at-spec : {M : Type 1} → statement M
 cut-at-spec =

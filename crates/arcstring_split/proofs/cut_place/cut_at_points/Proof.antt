@@ -8,8 +8,8 @@ use Rattle.arcstring.specs.Build.{builtNumbered}
 use Rattle.arcstring_split.specs.Steps.{forEach}
 use Rattle.arcstring_split.specs.Split.{cutString}
 use Rattle.arcstring_split.specs.Pieces.{firstPieces, Stands}
+use Rattle.arcstring_split.proofs.Rooms.{next-less, next-within}
 use Rattle.arcstring_split.proofs.CutPlaces.{counted-stand, points-end, points-step, points-stop}
-use borrow.Author.Needs.{needs}
 use Rattle.arcstring_split.proofs.cut_place.cut_at_points.Statement.{statement}
 use Rattle.arcstring_split.proofs.cut_place.cut_at_points.Tie as tie
 
@@ -21,6 +21,11 @@ Inv-loop work₀ buoys₀ counts₀ flags₀ m extra extra-buoys copy₀ copy-bu
 
 abbrev μ-loop : tie.MeasureT-loop
 μ-loop work₀ buoys₀ counts₀ flags₀ m extra extra-buoys copy₀ copy-buoys₀ more₀ i₀ work buoys counts flags copy copy-buoys more i = length extra-buoys - i
+
+-- the turn of the loop that a cut was answered in
+abbrev turn : tie.After-known-told Inv-loop μ-loop → tie.In-loop Inv-loop μ-loop
+turn c = c .before .before .before .before .before .before .before .before .before .before .before
+    .before .before .before .before .before .before .before .before .before .before
 
 loop-holds : tie.Need-loop-holds Inv-loop μ-loop
 loop-holds c = (omega arith, refl, refl, c .before .before .before .before .before .before .pre .0, refl)
@@ -38,10 +43,10 @@ cut-string-requires : tie.Need-cut-string-requires Inv-loop μ-loop
 cut-string-requires c κs = let w = c .before .before .before .before .before .before .before .before .loop in (w .inv .3, w .inv .1, w .inv .2)
 
 enum-known-cut : tie.Need-enum-known-cut Inv-loop μ-loop
-enum-known-cut c = search needs
+enum-known-cut c = omega arith
 
 enum-told : tie.Need-enum-told Inv-loop μ-loop
-enum-told c = search needs
+enum-told c = omega arith
 
 same-length : tie.Need-same-length Inv-loop μ-loop
 same-length c = c .before .before .before .before .before .before .before .before .before .before .before .before .cut-string .ensures .1 .floats ∙ sym
@@ -88,7 +93,7 @@ add-i c = omega (
 )
 
 loop-less : tie.Need-loop-less Inv-loop μ-loop
-loop-less c = omega arith
+loop-less c = next-less _ _ (turn c .loop-test .taken)
 
 loop-again : tie.Need-loop-again Inv-loop μ-loop
 loop-again c = let cut = c .before .before .before .before .before .before .before .before .before .before .before .before .before .cut-string in
@@ -97,11 +102,7 @@ loop-again c = let cut = c .before .before .before .before .before .before .befo
     let a = s .args in
     let w = c .before .before .before .before .before .before .before .before .before .before .before .before .before .before .before .before .before .before
     .before .before .before .before .loop in (
-      omega (
-        arith,
-        c .before .before .before .before .before .before .before .before .before .before .before .before .before .before .before .before .before
-            .before .before .before .before .loop-test .taken,
-      ),
+      next-within _ _ (turn c .loop-test .taken),
       cut .kept .1 .1 .1 .1 .1 .1 .0 ∙ w .inv .1,
       cut .kept .1 .1 .1 .1 .1 .1 .1 .0 ∙ w .inv .2,
       counted-stand (cut .result) _ _ _ _ _ (c .before .cut .given .1) (cut .ensures .1),

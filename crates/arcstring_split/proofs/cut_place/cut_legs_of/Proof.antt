@@ -5,8 +5,8 @@ use native.Mathlib.Omega.{arith}
 use lib.ListN.{take}
 use Rattle.arcstring_split.specs.Steps.{forPositions}
 use Rattle.arcstring_split.specs.Pieces.{firstPieces, sum}
+use Rattle.arcstring_split.proofs.Rooms.{next-less}
 use Rattle.arcstring_split.proofs.CutWalks.{Walks, walk-start, walk-end, legStep, leg-off, leg-stops, leg-goes-on}
-use borrow.Author.Needs.{needs}
 use borrow.Author.Tests.{not-true, not-false}
 use Rattle.arcstring_split.proofs.cut_place.cut_legs_of.Statement.{statement}
 use Rattle.arcstring_split.proofs.cut_place.cut_legs_of.Tie as tie
@@ -28,68 +28,63 @@ loop-holds c = let s = c .before .before .before .before .before .before in
           (a .flags .now) (s .pre .5),
     )
 
-leg-at-requires : tie.Need-leg-at-requires Inv-loop μ-loop
-leg-at-requires c κs = omega arith
-
-along-leg-requires : tie.Need-along-leg-requires Inv-loop μ-loop
-along-leg-requires c κs = search needs
+along-leg-at-requires : tie.Need-along-leg-at-requires Inv-loop μ-loop
+along-leg-at-requires c κs = omega arith
 
 add-i : tie.Need-add-i Inv-loop μ-loop
 add-i c = omega arith
 
 loop-less : tie.Need-loop-less Inv-loop μ-loop
-loop-less c = omega arith
+loop-less c = next-less _ _ (c .before .before .loop-test .taken)
 
 loop-again : tie.Need-loop-again Inv-loop μ-loop
-loop-again c = let s = c .before .before .before .before .before .before .before .before .before .before .before in
+loop-again c = let s = c .before .before .before .before .before .before .before .before .before .before in
     let a = s .args in
-    let w = c .before .before .before .before .loop in (
+    let w = c .before .before .before .loop in (
       w .inv .0,
-      leg-off (a .x) (a .copy .now) (a .copy-buoys .now) (a .k) (w .i) _ _ (s .pre .0) (omega arith) (c .before .before .leg-at .ensures)
-          (c .before .along-leg .ensures)
+      leg-off (a .x) (a .copy .now) (a .copy-buoys .now) (a .k) (w .i) _ (s .pre .0) (omega arith) (c .before .along-leg-at .ensures)
           (a .m) (a .legs) (w .work) (w .buoys) (w .counts) (w .flags) _ (w .more) (omega arith) (w .inv .1) (not-true _ (c .if1 .taken)),
     )
 
 cut-at-requires : tie.Need-cut-at-requires Inv-loop μ-loop
-cut-at-requires c κs = let s = c .before .before .before .before .before .before .before .before .before .before .before .before .before .before .before in
-    let w = c .before .before .before .before .before .before .before .before .loop in
+cut-at-requires c κs = let s = c .before .before .before .before .before .before .before .before .before .before .before .before .before .before in
+    let w = c .before .before .before .before .before .before .before .loop in
     let fewer = w .inv .1 .no-fewer in
     (s .pre .0, omega arith, s .pre .2, omega (arith, s .pre .3), s .pre .4 ∙ ap sum (sym (w .inv .0)), w .inv .1 .stands)
 
 enum-known-cut : tie.Need-enum-known-cut Inv-loop μ-loop
-enum-known-cut c = search needs
+enum-known-cut c = omega arith
 
 enum-told : tie.Need-enum-told Inv-loop μ-loop
-enum-told c = search needs
+enum-told c = omega arith
 
 same-length : tie.Need-same-length Inv-loop μ-loop
 same-length c = c .before .before .before .before .before .before .before .before .before .before .cut-at .ensures .1 .0 .floats ∙ sym
     (c .before .before .before .before .before .before .before .before .before .before .before .before .before .before .before .before .before .before .before
-    .before .before .before .before .before .before .before .pre .5 .floats)
+    .before .before .before .before .before .before .pre .5 .floats)
 
 same-length-2 : tie.Need-same-length-2 Inv-loop μ-loop
 same-length-2 c = c .before .before .before .before .before .before .before .before .before .before .cut-at .ensures .1 .0 .buoys-room ∙ sym
     (c .before .before .before .before .before .before .before .before .before .before .before .before .before .before .before .before .before .before .before
-    .before .before .before .before .before .before .before .pre .5 .buoys-room)
+    .before .before .before .before .before .before .pre .5 .buoys-room)
 
 same-length-3 : tie.Need-same-length-3 Inv-loop μ-loop
 same-length-3 c = c .before .before .before .before .before .before .before .before .before .before .cut-at .ensures .1 .0 .counts-room ∙ sym
     (c .before .before .before .before .before .before .before .before .before .before .before .before .before .before .before .before .before .before .before
-    .before .before .before .before .before .before .before .pre .5 .counts-room)
+    .before .before .before .before .before .before .pre .5 .counts-room)
 
 same-length-4 : tie.Need-same-length-4 Inv-loop μ-loop
 same-length-4 c = c .before .before .before .before .before .before .before .before .before .before .cut-at .ensures .1 .0 .flags-room ∙ sym
     (c .before .before .before .before .before .before .before .before .before .before .before .before .before .before .before .before .before .before .before
-    .before .before .before .before .before .before .before .pre .5 .flags-room)
+    .before .before .before .before .before .before .pre .5 .flags-room)
 
 returns : tie.Need-returns Inv-loop μ-loop
 returns c = let cut = c .before .before .before .before .before .before .before .before .before .before .cut-at in
     let e = c .before .before .before .before .before .before .before .before .before .before .before .before .before .before .before in
-    let s = e .before .before .before .before .before .before .before .before .before .before .before in
+    let s = e .before .before .before .before .before .before .before .before .before .before in
     let a = s .args in
-    let w = e .before .before .before .before .loop in
-    leg-stops (a .x) (a .copy .now) (a .copy-buoys .now) (a .k) (w .i) _ _ (s .pre .0) (omega arith) (e .before .before .leg-at .ensures)
-    (e .before .along-leg .ensures)
+    let w = e .before .before .before .loop in
+    leg-stops (a .x) (a .copy .now) (a .copy-buoys .now) (a .k) (w .i) _ (s .pre .0) (omega arith) (e .before .along-leg-at .ensures)
     (a .m) (a .legs) (w .work) (w .buoys) (w .counts) (w .flags) _ (w .more) (omega arith) (w .inv .1) (not-false _ (e .if1 .left))
     (cut .result) _ _ _ _ _ (cut .ensures .0) (cut .ensures .1 .0) (cut .ensures .1 .1) (w .inv .0) _ (c .enum-told .given .1)
 
@@ -97,16 +92,16 @@ add-i-2 : tie.Need-add-i-2 Inv-loop μ-loop
 add-i-2 c = omega arith
 
 loop-less-2 : tie.Need-loop-less-2 Inv-loop μ-loop
-loop-less-2 c = omega arith
+loop-less-2 c = next-less _ _ (c .before .before .before .before .before .before .before .before .before .before .before .before .before .before .before
+    .before .before .before .loop-test .taken)
 
 loop-again-2 : tie.Need-loop-again-2 Inv-loop μ-loop
 loop-again-2 c = let cut = c .before .before .before .before .before .before .before .before .before .before .before .cut-at in
     let e = c .before .before .before .before .before .before .before .before .before .before .before .before .before .before .before .before in
-    let s = e .before .before .before .before .before .before .before .before .before .before .before in
+    let s = e .before .before .before .before .before .before .before .before .before .before in
     let a = s .args in
-    let w = e .before .before .before .before .loop in
-    leg-goes-on (a .x) (a .copy .now) (a .copy-buoys .now) (a .k) (w .i) _ _ (s .pre .0) (omega arith) (e .before .before .leg-at .ensures)
-    (e .before .along-leg .ensures)
+    let w = e .before .before .before .loop in
+    leg-goes-on (a .x) (a .copy .now) (a .copy-buoys .now) (a .k) (w .i) _ (s .pre .0) (omega arith) (e .before .along-leg-at .ensures)
     (a .m) (a .legs) (w .work) (w .buoys) (w .counts) (w .flags) _ (w .more) (omega arith) (w .inv .1) (not-false _ (e .if1 .left))
     (cut .result) _ _ _ _ _ (cut .ensures .0) (cut .ensures .1 .0) (cut .ensures .1 .1) (w .inv .0) _ (c .before .cut .given .1)
 
@@ -138,8 +133,7 @@ cut-legs-of-spec =
     Inv-loop
     μ-loop
     loop-holds
-    leg-at-requires
-    along-leg-requires
+    along-leg-at-requires
     add-i
     loop-less
     loop-again

@@ -6,7 +6,6 @@ use lib.ListN.{length, getD}
 use lib.Seq.{length-take-le}
 use Rattle.arcstring_split.proofs.CutLists.{place-some}
 use Rattle.arcstring_split.proofs.CutPlaces.{place-within, copies-whole, place-walk}
-use borrow.Author.Needs.{needs}
 use Rattle.arcstring_split.proofs.cut_place.cut_place.Statement.{statement}
 use Rattle.arcstring_split.proofs.cut_place.cut_place.Tie as tie
 
@@ -42,10 +41,10 @@ buoys-room c = omega (
 )
 
 mul-n : tie.Need-mul-n
-mul-n c = search needs
+mul-n c = omega arith
 
 slice-read-n : tie.Need-slice-read-n
-slice-read-n c = search needs
+slice-read-n c = omega arith
 
 copy-run-requires : tie.Need-copy-run-requires
 copy-run-requires c κs = let s = c .before .before .before .before .before .before .before .before .before in
@@ -63,10 +62,10 @@ mul-end c = omega (
 )
 
 mul-leg-count : tie.Need-mul-leg-count
-mul-leg-count c = search needs
+mul-leg-count c = omega arith
 
 slice-read-leg-count : tie.Need-slice-read-leg-count
-slice-read-leg-count c = search needs
+slice-read-leg-count c = omega arith
 
 leg-count-requires : tie.Need-leg-count-requires
 leg-count-requires c κs = some (c .before .before .before .before .before .before .before .before .before .before .before .before .before .before .before
@@ -93,36 +92,40 @@ cut-legs-of-requires c κs = let s = c .before .before .before .before .before .
     (parts .0, parts .1, parts .2, s .pre .0, s .pre .1, s .pre .2)
 
 same-length : tie.Need-same-length
-same-length c = search needs
+same-length c = c .before .before .before .before .before .before .before .before .cut-legs-of .kept .1 .1 .1 .1 .0
 
 same-length-2 : tie.Need-same-length-2
-same-length-2 c = search needs
+same-length-2 c = c .before .before .before .before .before .before .before .before .cut-legs-of .kept .1 .1 .1 .1 .1 .0
 
 same-length-3 : tie.Need-same-length-3
-same-length-3 c = search needs
+same-length-3 c = c .before .before .before .before .before .before .before .before .cut-legs-of .kept .1 .1 .1 .1 .1 .1 .0
 
 same-length-4 : tie.Need-same-length-4
-same-length-4 c = search needs
+same-length-4 c = c .before .before .before .before .before .before .before .before .cut-legs-of .kept .1 .1 .1 .1 .1 .1 .1 .0
 
 same-length-5 : tie.Need-same-length-5
-same-length-5 c = search needs
+same-length-5 c = c .before .before .before .before .before .before .before .before .before .before .before .before .before .before .before .before .before
+    .before .before .before .before .before .before .before .copy-run .kept .1 .1 .1 .0
 
 same-length-6 : tie.Need-same-length-6
-same-length-6 c = search needs
+same-length-6 c = c .before .before .before .before .before .before .before .before .before .before .before .before .before .before .before .before .before
+    .before .before .copy-buoys .kept .1 .1 .1 .0
 
 returns : tie.Need-returns
 returns c = let s = c .before .before .before .before .before .before .before .before .before .before .before .before .before .before .before .before .before
     .before .before .before .before .before .before .before .before .before .before .before .before .before .before .before .before .before in
     let a = s .args in
+    let n = getD (a .counts .now) (a .k) 0 in
+    let copy = c .before .before .before .before .before .before .before .before .before .before .before .before .before .before .before .before .before
+    .before .before .before .before .before .before .before .copy-run in
+    let carried = c .before .before .before .before .before .before .before .before .before .before .before .before .before .before .before .before .before
+    .before .before .copy-buoys in
+    let legs = c .before .before .before .before .before .before .before .before .before .before .before .before .before .before .before .leg-count in
     let walk = c .before .before .before .before .before .before .before .before .cut-legs-of in (
       place-walk (a .work .now) (a .buoys .now) (a .counts .now) (a .flags .now) (a .m) (s .pre .2) (a .k) (s .pre .0) (a .at) (s .pre .1)
-          (a .x) _ _ _ _ _ (walk .result) _ _ _ _
-          (c .before .before .before .before .before .before .before .before .before .before .before .before .before .before .before .before .before .before
-          .before .before .before .before .before .before .copy-run .ensures)
-          (c .before .before .before .before .before .before .before .before .before .before .before .before .before .before .before .before .before .before
-          .before .copy-buoys .ensures)
-          (c .before .before .before .before .before .before .before .before .before .before .before .before .before .before .before .leg-count .ensures .0)
-          (walk .ensures .0),
+          (a .x) (a .copy .now) (copy .last .1 .1 .1 .0) (a .copy-buoys .now) (carried .last .1 .1 .1 .0) (legs .result) (walk .result)
+          (walk .last .1 .1 .1 .1 .0) (walk .last .1 .1 .1 .1 .1 .0) (walk .last .1 .1 .1 .1 .1 .1 .0) (walk .last .1 .1 .1 .1 .1 .1 .1 .0)
+          (copy .ensures) (carried .ensures) (legs .ensures .0) (walk .ensures .0),
       walk .ensures .1,
     )
 

@@ -8,9 +8,9 @@ use Rattle.arcstring.specs.Build.{builtNumbered}
 use Rattle.arcstring_split.specs.Steps.{forPositions}
 use Rattle.arcstring_split.specs.Split.{cutPlace}
 use Rattle.arcstring_split.specs.Pieces.{firstPieces, sum}
+use Rattle.arcstring_split.proofs.Rooms.{next-less, next-within, next-fits, place-fits, place-below, points-fit}
 use Rattle.arcstring_split.proofs.CutWalks.{Walks, walk-start, walk-end, walk-stops}
 use Rattle.arcstring_split.proofs.CutPlaces.{place-step, string-walk}
-use borrow.Author.Needs.{needs}
 use Rattle.arcstring_split.proofs.cut_place.cut_string.Statement.{statement}
 use Rattle.arcstring_split.proofs.cut_place.cut_string.Tie as tie
 
@@ -22,6 +22,14 @@ Inv-loop work₀ buoys₀ counts₀ flags₀ m x copy₀ copy-buoys₀ more₀ a
 
 abbrev μ-loop : tie.MeasureT-loop
 μ-loop work₀ buoys₀ counts₀ flags₀ m x copy₀ copy-buoys₀ more₀ at₀ k₀ work buoys counts flags copy copy-buoys more at k = m - k
+
+-- the turn of the loop that a cut was answered in, and the function's entry
+abbrev turn : tie.After-known-told Inv-loop μ-loop → tie.In-loop Inv-loop μ-loop
+turn c = c .before .before .before .before .before .before .before .before .before .before .before
+    .before .before .before .before .before .before .before .before .before .before .before
+
+abbrev entry : tie.In-loop Inv-loop μ-loop → tie.Start Inv-loop μ-loop
+entry t = t .before .before .before .before .before .before .before .before
 
 loop-holds : tie.Need-loop-holds Inv-loop μ-loop
 loop-holds c = let s = c .before .before .before .before .before .before in
@@ -39,10 +47,10 @@ cut-place-requires c κs = let w = c .before .before .before .before .before .be
     (omega arith, w .inv .2, w .inv .0 .stands, w .inv .3, w .inv .4)
 
 enum-known-cut : tie.Need-enum-known-cut Inv-loop μ-loop
-enum-known-cut c = search needs
+enum-known-cut c = omega arith
 
 enum-told : tie.Need-enum-told Inv-loop μ-loop
-enum-told c = search needs
+enum-told c = omega arith
 
 same-length : tie.Need-same-length Inv-loop μ-loop
 same-length c = c .before .before .before .before .before .before .before .before .before .before .before .before .before .before .cut-place .ensures .1 .0
@@ -93,58 +101,47 @@ returns c = let cut = c .before .before .before .before .before .before .before 
     )
 
 mul-at : tie.Need-mul-at Inv-loop μ-loop
-mul-at c = search needs
+mul-at c = let t = turn c in place-fits _ _ (t .loop-test .taken) (entry t .pre .0 .pieces)
 
 slice-read-at : tie.Need-slice-read-at Inv-loop μ-loop
-slice-read-at c = let l = c .before .before .before .before .before .before .before .before .before .before .before .before .before .before .before .before
-    .cut-place .ensures .1 .0 .counts-room in let f = c .before .before .before .before .before .before .before .before .before .before .before .before .before
-    .before .before .before .before .before .before .before .before .before .before .before .before .before .before .before .before .before .before .pre .0
-    .pieces in omega arith
+slice-read-at c = let t = turn (c .before) in
+    let cut = c .before .before .before .before .before .before .before .before .before .before .before .before .before .before .before .before .cut-place in
+    place-below _ _ (t .loop-test .taken) (entry t .pre .0 .pieces) _ (cut .ensures .1 .0 .counts-room)
 
 add-at : tie.Need-add-at Inv-loop μ-loop
-add-at c = let cut = c .before .before .before .before .before .before .before .before .before .before .before .before .before .before .before .before
-    .cut-place in
-    let a = c .before .before .before .before .before .before .before .before .before .before .before .before .before .before .before .before .before .before
-    .before .before .before .before .before .before .before .before .before .before .before .before .before .args in
-    let w = c .before .before .before .before .before .before .before .before .before .before .before .before .before .before .before .before .before .before
-    .before .before .before .before .before .before .loop in
+add-at c = let d = c .before .before .before .before .before .before .before .before .before .before .before .before .before .before .before .before in
+    let cut = d .cut-place in
+    let test = d .before .before .before .before .before .before .before .loop-test .taken in
+    let w = d .before .before .before .before .before .before .before .before .loop in
+    let a = d .before .before .before .before .before .before .before .before .before .before .before .before .before .before .before .args in
     let whole = forPositions (cutPlace placeOf builtNumbered (a .x)) 0 (a .m)
     (firstPieces (a .m) (a .work .now) (a .buoys .now) (a .counts .now) (a .flags .now)) in
-    let next = place-step (a .x) (a .m) (w .work) (w .buoys) (w .counts) (w .flags) whole (w .k) (w .more) (w .at) (w .inv .0) (cut .result) _ _ _ _
-    (c .before .before .before .before .before .before .before .before .before .before .before .before .before .before .before .before .before .before .before
-    .before .before .before .before .loop-test .taken)
-    (cut .ensures .0) _ (c .before .before .cut .given .1) (cut .ensures .1 .0) (w .inv .2) (cut .ensures .1 .1) in
-    omega (arith, next .0)
+    let next = place-step (a .x) (a .m) (w .work) (w .buoys) (w .counts) (w .flags) whole (w .k) (w .more) (w .at) (w .inv .0) (cut .result)
+    (cut .last .0) (cut .last .1 .0) (cut .last .1 .1 .0) (cut .last .1 .1 .1 .0) test
+    (cut .ensures .0) _ (c .before .before .cut .given .1) (cut .ensures .1 .0) (w .inv .2) (cut .ensures .1 .1) in points-fit _ (next .0)
 
 add-k : tie.Need-add-k Inv-loop μ-loop
-add-k c = omega arith
+add-k c = let t = turn (c .before) in next-fits _ _ (t .loop-test .taken) (entry t .pre .0 .pieces)
 
 loop-less : tie.Need-loop-less Inv-loop μ-loop
-loop-less c = omega arith
+loop-less c = next-less _ _ (turn (c .before) .loop-test .taken)
 
 loop-again : tie.Need-loop-again Inv-loop μ-loop
-loop-again c = let cut = c .before .before .before .before .before .before .before .before .before .before .before .before .before .before .before .before
-    .cut-place in
-    let a = c .before .before .before .before .before .before .before .before .before .before .before .before .before .before .before .before .before .before
-    .before .before .before .before .before .before .before .before .before .before .before .before .before .args in
-    let w = c .before .before .before .before .before .before .before .before .before .before .before .before .before .before .before .before .before .before
-    .before .before .before .before .before .before .loop in
+loop-again c = let d = c .before .before .before .before .before .before .before .before .before .before .before .before .before .before .before .before in
+    let cut = d .cut-place in
+    let test = d .before .before .before .before .before .before .before .loop-test .taken in
+    let w = d .before .before .before .before .before .before .before .before .loop in
+    let a = d .before .before .before .before .before .before .before .before .before .before .before .before .before .before .before .args in
     let whole = forPositions (cutPlace placeOf builtNumbered (a .x)) 0 (a .m)
     (firstPieces (a .m) (a .work .now) (a .buoys .now) (a .counts .now) (a .flags .now)) in
-    let next = place-step (a .x) (a .m) (w .work) (w .buoys) (w .counts) (w .flags) whole (w .k) (w .more) (w .at) (w .inv .0) (cut .result) _ _ _ _
-    (c .before .before .before .before .before .before .before .before .before .before .before .before .before .before .before .before .before .before .before
-    .before .before .before .before .loop-test .taken)
+    let next = place-step (a .x) (a .m) (w .work) (w .buoys) (w .counts) (w .flags) whole (w .k) (w .more) (w .at) (w .inv .0) (cut .result)
+    (cut .last .0) (cut .last .1 .0) (cut .last .1 .1 .0) (cut .last .1 .1 .1 .0) test
     (cut .ensures .0) _ (c .before .before .cut .given .1) (cut .ensures .1 .0) (w .inv .2) (cut .ensures .1 .1) in (
       next .2,
-      omega (
-        arith,
-        c .before .before .before .before .before .before .before .before .before .before .before .before .before .before .before .before
-            .before .before .before .before .before .before .before .loop-test .taken,
-      ),
+      next-within _ _ test,
       next .1,
       cut .kept .1 .1 .1 .1 .1 .1 .1 .1 .0 ∙ w .inv .3,
-      cut .kept .1 .1 .1
-          .1 .1 .1 .1 .1 .1 .0 ∙ w .inv .4,
+      cut .kept .1 .1 .1 .1 .1 .1 .1 .1 .1 .0 ∙ w .inv .4,
     )
 
 same-length-7 : tie.Need-same-length-7 Inv-loop μ-loop

@@ -3,33 +3,32 @@ use mathlib.Core.Path.{refl}
 use Prim.Native.Nat.{_+_, _-_}
 use native.Mathlib.Omega.{arith}
 use Rattle.arcstring_split.proofs.Replaced.{run-replaced}
-use borrow.Author.Needs.{needs}
 use Rattle.arcstring_split.proofs.cut_place.replace_buoys.Statement.{statement}
 use Rattle.arcstring_split.proofs.cut_place.replace_buoys.Tie as tie
 
 add-rest : tie.Need-add-rest
-add-rest c = search needs
+add-rest c = omega arith
 
 sub-rest : tie.Need-sub-rest
-sub-rest c = search needs
+sub-rest c = omega arith
 
 add-copy-buoys : tie.Need-add-copy-buoys
-add-copy-buoys c = search needs
+add-copy-buoys c = omega arith
 
 copy-buoys-requires : tie.Need-copy-buoys-requires
-copy-buoys-requires c κs = search needs
+copy-buoys-requires c κs = omega arith
 
 add-copy-buoys-2 : tie.Need-add-copy-buoys-2
-add-copy-buoys-2 c = search needs
+add-copy-buoys-2 c = omega arith
 
 copy-buoys-requires-2 : tie.Need-copy-buoys-requires-2
-copy-buoys-requires-2 c κs = search needs
+copy-buoys-requires-2 c κs = omega arith
 
 same-length : tie.Need-same-length
-same-length c = search needs
+same-length c = omega arith
 
 same-length-2 : tie.Need-same-length-2
-same-length-2 c = search needs
+same-length-2 c = omega arith
 
 returns : tie.Need-returns
 returns c = let a = c .before .before .before .before .before .before .before .before .before .before .before .before .args in

@@ -3,7 +3,6 @@ use mathlib.Core.Path.{_≡_, refl}
 use Prim.Native.Nat.{_+_, _-_, _≤_}
 use native.Mathlib.Omega.{arith}
 use lib.ListN.{length, take, drop, length-set}
-use borrow.Author.Needs.{needs}
 use Rattle.arcstring.specs.Splice.{splice}
 use Rattle.arcstring_split.proofs.Runs.{moved-none, moved-step, moved-all}
 use Rattle.arcstring_split.proofs.cut_place.replace_number.Statement.{statement}
@@ -25,13 +24,13 @@ sub-list : tie.Need-sub-list Inv-loop μ-loop
 sub-list c = omega arith
 
 mul-list : tie.Need-mul-list Inv-loop μ-loop
-mul-list c = search needs
+mul-list c = omega arith
 
 slice-read-list : tie.Need-slice-read-list Inv-loop μ-loop
 slice-read-list c = omega arith
 
 mul-list-2 : tie.Need-mul-list-2 Inv-loop μ-loop
-mul-list-2 c = search needs
+mul-list-2 c = omega arith
 
 slice-write-list : tie.Need-slice-write-list Inv-loop μ-loop
 slice-write-list c = omega arith
@@ -48,7 +47,7 @@ loop-again c = let d = c .before .before in
     (omega arith, omega arith, simp length-set (d .loop .inv .2), moved-step (a .list .now) _ (a .m) (d .loop .i) (omega arith) (omega arith) (omega arith) (d .loop .inv .3))
 
 mul-list-3 : tie.Need-mul-list-3 Inv-loop μ-loop
-mul-list-3 c = search needs
+mul-list-3 c = omega arith
 
 slice-write-list-2 : tie.Need-slice-write-list-2 Inv-loop μ-loop
 slice-write-list-2 c = omega arith
@@ -57,7 +56,7 @@ add-list : tie.Need-add-list Inv-loop μ-loop
 add-list c = omega arith
 
 mul-list-4 : tie.Need-mul-list-4 Inv-loop μ-loop
-mul-list-4 c = search needs
+mul-list-4 c = omega arith
 
 slice-write-list-3 : tie.Need-slice-write-list-3 Inv-loop μ-loop
 slice-write-list-3 c = simp length-set (omega arith)

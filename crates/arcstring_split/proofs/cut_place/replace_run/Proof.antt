@@ -2,33 +2,32 @@
 use Prim.Native.Nat.{_+_, _-_, _*_}
 use native.Mathlib.Omega.{arith}
 use Rattle.arcstring_split.proofs.Replaced.{run-replaced}
-use borrow.Author.Needs.{needs}
 use Rattle.arcstring_split.proofs.cut_place.replace_run.Statement.{statement}
 use Rattle.arcstring_split.proofs.cut_place.replace_run.Tie as tie
 
 add-rest : tie.Need-add-rest
-add-rest c = search needs
+add-rest c = omega arith
 
 sub-rest : tie.Need-sub-rest
-sub-rest c = search needs
+sub-rest c = omega arith
 
 add-copy-run : tie.Need-add-copy-run
-add-copy-run c = search needs
+add-copy-run c = omega arith
 
 copy-run-requires : tie.Need-copy-run-requires
-copy-run-requires c κs = search needs
+copy-run-requires c κs = omega arith
 
 add-copy-run-2 : tie.Need-add-copy-run-2
-add-copy-run-2 c = search needs
+add-copy-run-2 c = omega arith
 
 copy-run-requires-2 : tie.Need-copy-run-requires-2
-copy-run-requires-2 c κs = search needs
+copy-run-requires-2 c κs = omega arith
 
 same-length : tie.Need-same-length
-same-length c = search needs
+same-length c = omega arith
 
 same-length-2 : tie.Need-same-length-2
-same-length-2 c = search needs
+same-length-2 c = omega arith
 
 returns : tie.Need-returns
 returns c = let a = c .before .before .before .before .before .before .before .before .before .before .before .before .args in

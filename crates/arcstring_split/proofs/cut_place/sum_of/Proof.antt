@@ -3,7 +3,6 @@ use mathlib.Core.Path.{_≡_, refl, sym, ap, _∙_}
 use Prim.Native.Nat.{ℕ, _+_, _-_, _≤_}
 use native.Mathlib.Omega.{arith}
 use lib.ListN.{getD, take}
-use borrow.Author.Needs.{needs}
 use Rattle.arcstring_split.specs.Pieces.{sum}
 use Rattle.arcstring_split.proofs.Sums.{sum-next, sum-take-le}
 use Rattle.arcstring_split.proofs.cut_place.sum_of.Statement.{statement}
@@ -19,7 +18,7 @@ loop-holds : tie.Need-loop-holds Inv-loop μ-loop
 loop-holds c = (omega arith, refl)
 
 mul-total : tie.Need-mul-total Inv-loop μ-loop
-mul-total c = search needs
+mul-total c = omega arith
 
 shared-slice-read-total : tie.Need-shared-slice-read-total Inv-loop μ-loop
 shared-slice-read-total c = omega arith

@@ -3,15 +3,14 @@ use native.Mathlib.Omega.{arith}
 use lib.ListN.{length}
 use Rattle.arcstring.proofs.Written.{both-fit}
 use Rattle.arcstring_split.proofs.InsertAnswers.{stood, handed-refusal, handed-no-room, handed-vertices}
-use borrow.Author.Needs.{needs}
 use Rattle.arcstring_split.proofs.insert.hand_over.Statement.{statement}
 use Rattle.arcstring_split.proofs.insert.hand_over.Tie as tie
 
 enum-known-held : tie.Need-enum-known-held
-enum-known-held c = search needs
+enum-known-held c = omega arith
 
 enum-known-held-2 : tie.Need-enum-known-held-2
-enum-known-held-2 c = search needs
+enum-known-held-2 c = omega arith
 
 mul-if1 : tie.Need-mul-if1
 mul-if1 c = let s = c .before .before .before .before .before .before .before in
@@ -41,10 +40,10 @@ returns-2 c = let s = c .before .before .before .before .before .before .before 
     handed-refusal _ (s .args .work .now) (s .args .buoys .now) (s .args .out .now) (s .args .out-buoys .now) _ (c .before .held .given .1)
 
 same-length : tie.Need-same-length
-same-length c = search needs
+same-length c = omega arith
 
 same-length-2 : tie.Need-same-length-2
-same-length-2 c = search needs
+same-length-2 c = omega arith
 
 returns-3 : tie.Need-returns-3
 returns-3 c = let n = c .before .before in

@@ -4,12 +4,20 @@ use Prim.Native.Nat.{_≤_, _+_, _-_, _*_}
 use native.Mathlib.Omega.{arith}
 use lib.ListN.{length}
 use lib.Seq.{length-take-le}
-use borrow.Author.Needs.{needs}
 use borrow.Author.Tests.{not-true, not-false}
 use Rattle.arcstring.specs.Points.{placeOf}
 use Rattle.arcstring_split.specs.Insert.{insertPoint, insertWalk}
 use Rattle.arcstring_split.proofs.Inserted.{firstVertices}
-use Rattle.arcstring_split.proofs.InsertWalks.{walk-begin, walk-past, walk-full, walk-on, walk-end}
+use Rattle.arcstring_split.proofs.InsertWalks.{
+  walk-begin,
+  walk-past,
+  walk-full,
+  walk-on,
+  walk-end,
+  leg-within,
+  past-numbers,
+  on-numbers,
+}
 use Rattle.arcstring_split.proofs.insert.insert_point.Statement.{statement}
 use Rattle.arcstring_split.proofs.insert.insert_point.Tie as tie
 
@@ -41,17 +49,14 @@ add-i c = omega arith
 mul-end : tie.Need-mul-end Inv-loop μ-loop
 mul-end c = omega arith
 
-slice-reshare-prefix-leg-at : tie.Need-slice-reshare-prefix-leg-at Inv-loop μ-loop
-slice-reshare-prefix-leg-at c = omega arith
+slice-reshare-prefix-along-leg-at : tie.Need-slice-reshare-prefix-along-leg-at Inv-loop μ-loop
+slice-reshare-prefix-along-leg-at c = omega arith
 
-slice-aggregate-leg-at : tie.Need-slice-aggregate-leg-at Inv-loop μ-loop
-slice-aggregate-leg-at c = let d = c .before .before in sym (length-take-le (3 * d .loop .m) (d .loop .work) (omega arith))
+slice-aggregate-along-leg-at : tie.Need-slice-aggregate-along-leg-at Inv-loop μ-loop
+slice-aggregate-along-leg-at c = let d = c .before .before in sym (length-take-le (3 * d .loop .m) (d .loop .work) (omega arith))
 
-leg-at-requires : tie.Need-leg-at-requires Inv-loop μ-loop
-leg-at-requires c κs = let d = c .before .before in (length-take-le (3 * d .loop .m) (d .loop .work) (omega arith), omega arith)
-
-along-leg-requires : tie.Need-along-leg-requires Inv-loop μ-loop
-along-leg-requires c κs = search needs
+along-leg-at-requires : tie.Need-along-leg-at-requires Inv-loop μ-loop
+along-leg-at-requires c κs = let d = c .before .before in (length-take-le (3 * d .loop .m) (d .loop .work) (omega arith), omega arith)
 
 add-k : tie.Need-add-k Inv-loop μ-loop
 add-k c = omega arith
@@ -60,30 +65,37 @@ loop-less : tie.Need-loop-less Inv-loop μ-loop
 loop-less c = omega arith
 
 loop-again : tie.Need-loop-again Inv-loop μ-loop
-loop-again c = let d = c .before .before .before .before .before in
-    let s = d .before .before .before .before in (
-      omega arith,
-      omega arith,
-      d .loop .inv .2,
-      d .loop .inv .3,
-      d .loop .inv .4,
-      walk-past (s .args .x) (d .loop .work) (d .loop .buoys) (d .loop .m)
-          (d .loop .k) _ (d .loop .i) _ (d .loop .inv .5) _ _ (c .before .before .before .before .loop-test .taken) (omega arith) (omega arith)
-          (omega arith) (c .before .before .leg-at .ensures) (c .before .along-leg .ensures) (not-true _ (c .if1 .taken)),
+loop-again c = let d = c .before .before .before .before in
+    let s = d .before .before .before .before in
+    let w = d .loop in
+    let test = c .before .before .before .loop-test .taken in
+    let wide = w .inv .3 ∙ s .pre .2 in
+    let long = w .inv .4 ∙ s .pre .3 in
+    let there = leg-within _ (w .i) (w .k) (w .m) _ _ test (w .inv .1) (w .inv .2) wide long in
+    let next = past-numbers _ (w .i) (w .k) (w .m) _ _ test (w .inv .1) (w .inv .2) wide long in (
+      next .0,
+      next .1,
+      w .inv .2,
+      w .inv .3,
+      w .inv .4,
+      walk-past (s .args .x) (w .work) (w .buoys) (w .m) (w .k) _ (w .i) _ (w .inv .5) _ test (there .0) (there .1) (there .2)
+          (c .before .along-leg-at .ensures) (not-true _ (c .if1 .taken)),
     )
 
 same-length : tie.Need-same-length Inv-loop μ-loop
-same-length c = c .before .before .before .before .before .before .loop .inv .3
+same-length c = c .before .before .before .before .before .loop .inv .3
 
 same-length-2 : tie.Need-same-length-2 Inv-loop μ-loop
-same-length-2 c = c .before .before .before .before .before .before .loop .inv .4
+same-length-2 c = c .before .before .before .before .before .loop .inv .4
 
 returns : tie.Need-returns Inv-loop μ-loop
-returns c = let d = c .before .before .before .before .before .before in
-    let s = d .before .before .before .before in (
-      walk-full (s .args .x) (d .loop .work) (d .loop .buoys) (d .loop .m) (d .loop .k) _ (d .loop .i) _ (d .loop .inv .5) _ _
-          (c .before .before .before .before .before .loop-test .taken) (omega arith) (omega arith) (omega arith)
-          (c .before .before .before .leg-at .ensures) (c .before .before .along-leg .ensures) (not-false _ (c .before .if1 .left)) (c .if2 .taken),
+returns c = let d = c .before .before .before .before .before in
+    let s = d .before .before .before .before in
+    let w = d .loop in
+    let test = c .before .before .before .before .loop-test .taken in
+    let there = leg-within _ (w .i) (w .k) (w .m) _ _ test (w .inv .1) (w .inv .2) (w .inv .3 ∙ s .pre .2) (w .inv .4 ∙ s .pre .3) in (
+      walk-full (s .args .x) (w .work) (w .buoys) (w .m) (w .k) _ (w .i) _ (w .inv .5) _ test (there .0) (there .1) (there .2)
+          (c .before .before .along-leg-at .ensures) (not-false _ (c .before .if1 .left)) (c .if2 .taken),
       omega arith,
     )
 
@@ -104,19 +116,23 @@ loop-less-2 c = omega arith
 
 loop-again-2 : tie.Need-loop-again-2 Inv-loop μ-loop
 loop-again-2 c = let a = c .before .before .before .before .before .before .before .before in
-    let d = a .before .before .before .before .before .before in
+    let d = a .before .before .before .before .before in
     let s = d .before .before .before .before in
+    let w = d .loop in
+    let test = a .before .before .before .before .loop-test .taken in
     let put = c .before .before .before .before .before .before .insert-vertex in
-    let likewise = c .before .before .insert-buoy in (
-      omega arith,
-      omega arith,
-      omega arith,
-      put .kept .0 ∙ d .loop .inv .3,
-      likewise .kept .0 ∙ d .loop .inv .4,
-      walk-on (s .args .x) (d .loop .work)
-          (d .loop .buoys) (d .loop .m) (d .loop .k) _ (d .loop .i) _ (d .loop .inv .5) _ _ (a .before .before .before .before .before .loop-test .taken)
-          (omega arith) (omega arith) (omega arith) (a .before .before .before .leg-at .ensures) (a .before .before .along-leg .ensures) _ _
-          (not-false _ (a .before .if1 .left)) (omega arith) (d .loop .inv .3 ∙ s .pre .2) (d .loop .inv .4 ∙ s .pre .3) (put .ensures) (likewise .ensures),
+    let likewise = c .before .before .insert-buoy in
+    let wide = w .inv .3 ∙ s .pre .2 in
+    let long = w .inv .4 ∙ s .pre .3 in
+    let there = leg-within _ (w .i) (w .k) (w .m) _ _ test (w .inv .1) (w .inv .2) wide long in
+    let next = on-numbers _ (w .i) (w .k) (w .m) _ _ test (w .inv .1) (w .inv .2) wide long (a .if2 .left) in (
+      next .0,
+      next .1,
+      next .2,
+      put .kept .0 ∙ w .inv .3,
+      likewise .kept .0 ∙ w .inv .4,
+      walk-on (s .args .x) (w .work) (w .buoys) (w .m) (w .k) _ (w .i) _ (w .inv .5) _ test (there .0) (there .1) (there .2)
+          (a .before .before .along-leg-at .ensures) _ _ (not-false _ (a .before .if1 .left)) (next .3) wide long (put .ensures) (likewise .ensures),
     )
 
 same-length-3 : tie.Need-same-length-3 Inv-loop μ-loop
@@ -140,10 +156,9 @@ insert-point-spec =
     loop-holds
     add-i
     mul-end
-    slice-reshare-prefix-leg-at
-    slice-aggregate-leg-at
-    leg-at-requires
-    along-leg-requires
+    slice-reshare-prefix-along-leg-at
+    slice-aggregate-along-leg-at
+    along-leg-at-requires
     add-k
     loop-less
     loop-again

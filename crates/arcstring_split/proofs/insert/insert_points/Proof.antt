@@ -3,7 +3,6 @@ use mathlib.Core.Path.{_≡_, refl, _∙_}
 use Prim.Native.Nat.{_≤_, _-_}
 use native.Mathlib.Omega.{arith}
 use lib.ListN.{length, drop}
-use borrow.Author.Needs.{needs}
 use Rattle.arcstring.specs.Points.{numbered, placeOf, points}
 use Rattle.arcstring_split.specs.Steps.{forEach}
 use Rattle.arcstring_split.specs.Insert.{insertPoint, inserted}
@@ -34,10 +33,10 @@ insert-point-requires c κs = let d = c .before .before .before .before in
     (d .loop .inv .1, d .loop .inv .2, d .loop .inv .3 ∙ s .pre .2, d .loop .inv .4 ∙ s .pre .3)
 
 enum-known-inserted : tie.Need-enum-known-inserted Inv-loop μ-loop
-enum-known-inserted c = search needs
+enum-known-inserted c = omega arith
 
 enum-told : tie.Need-enum-told Inv-loop μ-loop
-enum-told c = search needs
+enum-told c = omega arith
 
 same-length : tie.Need-same-length Inv-loop μ-loop
 same-length c = let f = c .before .before .before .before .before .before in

@@ -6,7 +6,6 @@ use Rattle.arcstring.specs.Answer.{firstOf}
 use Rattle.arcstring.specs.Check.{checkNumber, stringCheck, pointsCheck}
 use Rattle.arcstring.proofs.Answers.{both-numbers}
 use Rattle.arcstring_split.proofs.InsertAnswers.{Both, refused-insert, accepted, written-insert}
-use borrow.Author.Needs.{needs}
 use Rattle.arcstring_split.proofs.insert.insert_vertices.Statement.{statement}
 use Rattle.arcstring_split.proofs.insert.insert_vertices.Tie as tie
 
@@ -22,16 +21,16 @@ both f told = let a = f .before .before .before .before .before .before .before 
     accepted _ (a .v .now) (a .buoys .now) (a .extra .now) (a .extra-buoys .now) (number f) told
 
 check-string-requires : tie.Need-check-string-requires
-check-string-requires c κs = search needs
+check-string-requires c κs = omega arith
 
 check-points-requires : tie.Need-check-points-requires
-check-points-requires c κs = search needs
+check-points-requires c κs = omega arith
 
 first-of-requires : tie.Need-first-of-requires
-first-of-requires c κs = search needs
+first-of-requires c κs = omega arith
 
 enum-known-checked : tie.Need-enum-known-checked
-enum-known-checked c = search needs
+enum-known-checked c = omega arith
 
 returns : tie.Need-returns
 returns c = let f = c .before .before .before in
@@ -40,17 +39,17 @@ returns c = let f = c .before .before .before in
     _ (c .before .checked .given .1)
 
 enum-told : tie.Need-enum-told
-enum-told c = search needs
+enum-told c = omega arith
 
 slice-aggregate-copy-run : tie.Need-slice-aggregate-copy-run
-slice-aggregate-copy-run c = search needs
+slice-aggregate-copy-run c = omega arith
 
 copy-run-requires : tie.Need-copy-run-requires
 copy-run-requires c κs = let whole = both (c .before .before .before) (c .before .enum-told .given .1) .vertices in
     (omega (arith, whole .triples), omega (arith, whole .at-most))
 
 slice-aggregate-copy-buoys : tie.Need-slice-aggregate-copy-buoys
-slice-aggregate-copy-buoys c = search needs
+slice-aggregate-copy-buoys c = omega arith
 
 copy-buoys-requires : tie.Need-copy-buoys-requires
 copy-buoys-requires c κs = let d = c .before .before .before .before in
@@ -58,10 +57,10 @@ copy-buoys-requires c κs = let d = c .before .before .before .before in
     (omega (arith, lists .numbers), omega (arith, lists .vertices .at-most))
 
 slice-aggregate-insert-points : tie.Need-slice-aggregate-insert-points
-slice-aggregate-insert-points c = search needs
+slice-aggregate-insert-points c = omega arith
 
 slice-aggregate-insert-points-2 : tie.Need-slice-aggregate-insert-points-2
-slice-aggregate-insert-points-2 c = search needs
+slice-aggregate-insert-points-2 c = omega arith
 
 insert-points-requires : tie.Need-insert-points-requires
 insert-points-requires c κs = let d = c .before .before .before .before .before .before .before .before in
@@ -70,19 +69,19 @@ insert-points-requires c κs = let d = c .before .before .before .before .before
     (lists .some, lists .vertices .at-most, copied, c .before .before .before .copy-buoys .kept .1 .1 .1 .0, lists .points)
 
 slice-aggregate-hand-over : tie.Need-slice-aggregate-hand-over
-slice-aggregate-hand-over c = search needs
+slice-aggregate-hand-over c = omega arith
 
 slice-aggregate-hand-over-2 : tie.Need-slice-aggregate-hand-over-2
-slice-aggregate-hand-over-2 c = search needs
+slice-aggregate-hand-over-2 c = omega arith
 
 hand-over-requires : tie.Need-hand-over-requires
-hand-over-requires c κs = search needs
+hand-over-requires c κs = omega arith
 
 same-length : tie.Need-same-length
-same-length c = search needs
+same-length c = c .before .before .before .before .hand-over .kept .1 .1 .1 .0
 
 same-length-2 : tie.Need-same-length-2
-same-length-2 c = search needs
+same-length-2 c = c .before .before .before .before .hand-over .kept .1 .1 .1 .1 .0
 
 returns-2 : tie.Need-returns-2
 returns-2 c = let h = c .before .before .before .before in

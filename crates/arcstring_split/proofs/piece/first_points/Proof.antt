@@ -6,34 +6,34 @@ use Rattle.arcstring_split.proofs.piece.first_points.Statement.{stateme
 use Rattle.arcstring_split.proofs.piece.first_points.Tie as tie
 
 add-copy-run : tie.Need-add-copy-run
-add-copy-run c = search needs
+add-copy-run c = omega arith
 
 copy-run-requires : tie.Need-copy-run-requires
-copy-run-requires c κs = search needs
+copy-run-requires c κs = omega arith
 
 add-copy-buoys : tie.Need-add-copy-buoys
-add-copy-buoys c = search needs
+add-copy-buoys c = omega arith
 
 copy-buoys-requires : tie.Need-copy-buoys-requires
-copy-buoys-requires c κs = search needs
+copy-buoys-requires c κs = omega arith
 
 add-put-vertex : tie.Need-add-put-vertex
-add-put-vertex c = search needs
+add-put-vertex c = omega arith
 
 put-vertex-requires : tie.Need-put-vertex-requires
-put-vertex-requires c κs = search needs
+put-vertex-requires c κs = omega arith
 
 add-out-buoys : tie.Need-add-out-buoys
-add-out-buoys c = search needs
+add-out-buoys c = omega arith
 
 mul-out-buoys : tie.Need-mul-out-buoys
-mul-out-buoys c = search needs
+mul-out-buoys c = omega arith
 
 slice-write-out-buoys : tie.Need-slice-write-out-buoys
-slice-write-out-buoys c = search needs
+slice-write-out-buoys c = omega arith
 
 same-length : tie.Need-same-length
-same-length c = search needs
+same-length c = omega arith
 
 same-length-2 : tie.Need-same-length-2
 same-length-2 c = search needs

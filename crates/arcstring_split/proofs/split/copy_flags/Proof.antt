@@ -3,7 +3,6 @@ use mathlib.Core.Path.{_≡_, refl, sym, ap, _∙_}
 use Prim.Native.Nat.{ℕ, _-_, _≤_}
 use native.Mathlib.Omega.{arith}
 use lib.ListN.{length, take, length-set}
-use borrow.Author.Needs.{needs}
 use Rattle.arcstring.specs.Splice.{splice}
 use Rattle.arcstring.proofs.Splices.{splice-nothing}
 use Rattle.arcstring_split.specs.Pieces.{flagsOf}
@@ -21,13 +20,13 @@ loop-holds : tie.Need-loop-holds Inv-loop μ-loop
 loop-holds c = (omega arith, refl, sym (splice-nothing _ _))
 
 mul-flag-byte : tie.Need-mul-flag-byte Inv-loop μ-loop
-mul-flag-byte c = search needs
+mul-flag-byte c = omega arith
 
 shared-slice-read-flag-byte : tie.Need-shared-slice-read-flag-byte Inv-loop μ-loop
 shared-slice-read-flag-byte c = omega arith
 
 flag-byte-requires : tie.Need-flag-byte-requires Inv-loop μ-loop
-flag-byte-requires c κs = search needs
+flag-byte-requires c κs = omega arith
 
 slice-write-out : tie.Need-slice-write-out Inv-loop μ-loop
 slice-write-out c = omega arith

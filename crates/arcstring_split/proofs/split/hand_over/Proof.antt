@@ -8,7 +8,6 @@ use Rattle.arcstring.proofs.Splices.{splice-front}
 use Rattle.arcstring_split.specs.Pieces.{Stands}
 use Rattle.arcstring_split.proofs.CutPlaces.{counted-stand}
 use Rattle.arcstring_split.proofs.SplitAnswers.{rooms-fit, handed-refusal, handed-uncut, handed-no-room, handed-pieces}
-use borrow.Author.Needs.{needs}
 use Rattle.arcstring_split.proofs.split.hand_over.Statement.{statement}
 use Rattle.arcstring_split.proofs.split.hand_over.Tie as tie
 
@@ -29,10 +28,10 @@ fits : (c : tie.Else2) → (3 * (c .before .sum-of .result) ≤ length (c .befor
 fits c = rooms-fit _ _ _ _ _ _ _ _ (c .if2 .left)
 
 enum-known-cut : tie.Need-enum-known-cut
-enum-known-cut c = search needs
+enum-known-cut c = omega arith
 
 enum-known-cut-2 : tie.Need-enum-known-cut-2
-enum-known-cut-2 c = search needs
+enum-known-cut-2 c = omega arith
 
 returns : tie.Need-returns
 returns c = let s = c .before .before .before .before .before .before .before .before .before .before .before .before in
@@ -81,16 +80,16 @@ returns-3 c = let a = c .before .before .before .before .before .before .before 
     (a .flags .now) _ (c .before .cut .given .1)
 
 same-length : tie.Need-same-length
-same-length c = search needs
+same-length c = c .before .before .before .before .before .before .before .before .before .before .before .before .before .before .copy-run .kept .1 .1 .1 .0
 
 same-length-2 : tie.Need-same-length-2
-same-length-2 c = search needs
+same-length-2 c = c .before .before .before .before .before .before .before .before .before .before .copy-buoys .kept .1 .1 .1 .0
 
 same-length-3 : tie.Need-same-length-3
-same-length-3 c = search needs
+same-length-3 c = c .before .before .before .before .before .before .copy-numbers .kept .1 .1 .0
 
 same-length-4 : tie.Need-same-length-4
-same-length-4 c = search needs
+same-length-4 c = c .before .before .copy-flags .kept .1 .1 .0
 
 returns-4 : tie.Need-returns-4
 returns-4 c = let s = c .before .before .before .before .before .before .before .before .before .before .before .before .before .before .before .before .before

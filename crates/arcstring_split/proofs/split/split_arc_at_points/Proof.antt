@@ -12,7 +12,6 @@ use Rattle.arcstring_crossing.specs.Crossing.{legOf, legCheck}
 use Rattle.arcstring_split.specs.Pieces.{legsOf}
 use Rattle.arcstring_split.proofs.LegSplits.{cut-at-most}
 use Rattle.arcstring_split.proofs.SplitLegAnswers.{one-leg, refused-split, accepted-points, refused-cut, uncut-split, cramped-split, written-split}
-use borrow.Author.Needs.{needs}
 use Rattle.arcstring_split.proofs.split.split_arc_at_points.Statement.{statement}
 use Rattle.arcstring_split.proofs.split.split_arc_at_points.Tie as tie
 
@@ -37,16 +36,16 @@ room c = let p = c .before .before .before in
     omega (arith, most c, p .cut-at-points .kept .0, d .put-vertex2 .kept .0, d .before .before .before .before .put-vertex .kept .0)
 
 check-leg-requires : tie.Need-check-leg-requires
-check-leg-requires c κs = search needs
+check-leg-requires c κs = omega arith
 
 check-list-requires : tie.Need-check-list-requires
-check-list-requires c κs = search needs
+check-list-requires c κs = omega arith
 
 first-of-requires : tie.Need-first-of-requires
-first-of-requires c κs = search needs
+first-of-requires c κs = omega arith
 
 enum-known-checked : tie.Need-enum-known-checked
-enum-known-checked c = search needs
+enum-known-checked c = omega arith
 
 returns : tie.Need-returns
 returns c = let f = c .before .before .before in
@@ -54,28 +53,28 @@ returns c = let f = c .before .before .before in
     refused-split _ (legOf (s .args .arc)) (s .args .extra .now) (s .args .out .now) (number f) _ (c .before .checked .given .1)
 
 enum-told : tie.Need-enum-told
-enum-told c = search needs
+enum-told c = omega arith
 
 slice-aggregate-put-vertex : tie.Need-slice-aggregate-put-vertex
-slice-aggregate-put-vertex c = search needs
+slice-aggregate-put-vertex c = omega arith
 
 start-of-requires : tie.Need-start-of-requires
-start-of-requires c κs = search needs
+start-of-requires c κs = omega arith
 
 put-vertex-requires : tie.Need-put-vertex-requires
-put-vertex-requires c κs = search needs
+put-vertex-requires c κs = omega arith
 
 slice-aggregate-put-vertex-2 : tie.Need-slice-aggregate-put-vertex-2
-slice-aggregate-put-vertex-2 c = search needs
+slice-aggregate-put-vertex-2 c = omega arith
 
 end-of-requires : tie.Need-end-of-requires
-end-of-requires c κs = search needs
+end-of-requires c κs = omega arith
 
 put-vertex-requires-2 : tie.Need-put-vertex-requires-2
-put-vertex-requires-2 c κs = search needs
+put-vertex-requires-2 c κs = omega arith
 
 slice-aggregate-cut-at-points : tie.Need-slice-aggregate-cut-at-points
-slice-aggregate-cut-at-points c = search needs
+slice-aggregate-cut-at-points c = omega arith
 
 cut-at-points-requires : tie.Need-cut-at-points-requires
 cut-at-points-requires c κs = let p = c .before .before in
@@ -85,10 +84,10 @@ cut-at-points-requires c κs = let p = c .before .before in
     (p .put-vertex2 .kept .0 ∙ p .before .before .before .before .put-vertex .kept .0, accepted-points _ (legOf (s .args .arc)) (s .args .extra .now) (s .args .out .now) (number f) (d .enum-told .given .1) .triples)
 
 enum-known-cut : tie.Need-enum-known-cut
-enum-known-cut c = search needs
+enum-known-cut c = omega arith
 
 enum-known-cut-2 : tie.Need-enum-known-cut-2
-enum-known-cut-2 c = search needs
+enum-known-cut-2 c = omega arith
 
 returns-2 : tie.Need-returns-2
 returns-2 c = let t = c .before .before in
@@ -110,7 +109,7 @@ returns-3 c = let t = c .before .before .before in
     cramped-split _ (legOf (s .args .arc)) (s .args .extra .now) (s .args .out .now) (number f) (d .enum-told .given .1) (p .before .before .before .put-vertex2 .last .0) (p .cut-at-points .last .0) (p .cut-at-points .result) (one p) (p .cut-at-points .ensures .0) _ (t .cut2 .given .1) (room t) (c .before .if1 .left) (c .if2 .taken)
 
 slice-aggregate-copy-run : tie.Need-slice-aggregate-copy-run
-slice-aggregate-copy-run c = search needs
+slice-aggregate-copy-run c = omega arith
 
 mul-copy-run : tie.Need-mul-copy-run
 mul-copy-run c = omega (arith, most (c .before .before .before .before))
@@ -126,7 +125,7 @@ returns-4 c = let p = c .before .before .before .before in
     refused-cut _ (legOf (s .args .arc)) (s .args .extra .now) (s .args .out .now) (number f) (d .enum-told .given .1) (p .before .before .before .put-vertex2 .last .0) (p .cut-at-points .last .0) (p .cut-at-points .result) (one p) (p .cut-at-points .ensures .0) _ (c .before .cut .given .1)
 
 same-length : tie.Need-same-length
-same-length c = search needs
+same-length c = omega arith
 
 returns-5 : tie.Need-returns-5
 returns-5 c = let t = c .before .before .before .before .before .before .before .before in
