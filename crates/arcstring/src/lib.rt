@@ -8,8 +8,9 @@
 //     walk      backwards, restarted, and the run between two positions
 //
 // vertex holds what the calls of the layer share. A function with a `requires` is for the crates of the string
-// layer, not for users. Above this crate: arcstring_crossing has pairs of legs, arcstring_relation a point on a string,
-// comparisons, turns and midpoints, arcstring_simplify and arcstring_split strings changed.
+// layer, not for users. Above this crate: arcstring_crossing has a pair of legs, arcstring_listing their counts and listings,
+// arcstring_along a point on a string, arcstring_measure turns and midpoints, arcstring_relation comparisons, arcstring_simplify,
+// arcstring_insert, arcstring_split_leg and arcstring_split what is changed.
 pub mod build;
 pub mod check;
 pub mod point;

@@ -9,9 +9,9 @@ use lib.Ieee.{Float}
 use Rattle.arcstring.specs.Answer.{Answer, refused, answered, mapAnswer, leaves, flagNumber}
 use Rattle.arcstring.specs.Points.{StringOf}
 use Rattle.arcstring.specs.Build.{builtResult}
-use Rattle.arcstring_crossing.specs.declared.listing.Counts.{Counts}
-use Rattle.arcstring_crossing.specs.Listing.{Listing, listedResult, listedFloats, listedBytes}
-use Rattle.arcstring_split.specs.SplitLeg.{pieceCount}
+use Rattle.arcstring_listing.specs.declared.listing.Counts.{Counts}
+use Rattle.arcstring_listing.specs.Listing.{Listing, listedResult, listedFloats, listedBytes}
+use Rattle.arcstring_split_leg.specs.SplitLeg.{pieceCount}
 use Rattle.arcstring_c.specs.Numbers.{answerNumber, leftIn, pieceNumber, piecesWritten, vertexCount, closedByte, keptCount, listingCounts, listedKept, listedCounts}
 
 -- ---- where the answer b is the answer a

@@ -10,9 +10,9 @@ use Rattle.sphericalpoint.specs.declared.SphericalPoint.{SphericalPoint}
 use Rattle.arcstring.specs.Answer.{Answer, refused, answered, pick, flagNumber}
 use Rattle.arcstring.specs.Points.{StringOf, point}
 use Rattle.arcstring.specs.Walk.{runOf}
-use Rattle.arcstring_crossing.specs.declared.listing.Counts.{Counts}
 use Rattle.arcstring_crossing.specs.Crossing.{Leg, leg, Judged}
-use Rattle.arcstring_crossing.specs.Listing.{Listing}
+use Rattle.arcstring_listing.specs.declared.listing.Counts.{Counts}
+use Rattle.arcstring_listing.specs.Listing.{Listing}
 
 -- 0, or the number of the refusal
 abbrev pub answerNumber : {A : Type 0} → Answer A → ℕ

@@ -5,12 +5,12 @@ ghost use Rattle.arcstring.specs.Answer.{leaves, mapAnswer, flagNumber};
 ghost use Rattle.arcstring.specs.Walk.{writtenFloats, withoutBuoys, writtenBuoys};
 ghost use Rattle.arcstring_simplify.specs.Simplify.{simplify};
 ghost use Rattle.arcstring_simplify.specs.Relation.{equals, overlaps};
-ghost use Rattle.arcstring_split.specs.Insert.{insertVertices};
-ghost use Rattle.arcstring_split.specs.SplitLeg.{splitLeg, splitAnswer, ofPieces, legFloats};
+ghost use Rattle.arcstring_insert.specs.Insert.{insertVertices};
+ghost use Rattle.arcstring_split_leg.specs.SplitLeg.{splitLeg, splitAnswer, ofPieces, legFloats};
 ghost use Rattle.arcstring_split.specs.Split.{splitString, pieceFloats, pieceBuoys, pieceCounts, pieceFlags};
 ghost use Rattle.arcstring_c.specs.Numbers.{answerNumber, leftIn, flag, legOfSix, pieceNumber, piecesWritten};
 use arcstring::check;
-use arcstring_split::split::Split;
+use arcstring_split_leg::split::Split;
 
 // How many pieces were written, 0 for uncut, put into its place, or the refusal's number.
 fn cut(s: Split, pieces: &mut usize) -> u32
@@ -66,7 +66,7 @@ pub extern "C" fn arcstring_insert_vertices(
     ensures { λ _. ⌜ now (count .exit) ≡ leftIn length (insertVertices (now (v .entry)) (now (buoys .entry)) (flag closed) (now (points .entry)) (now («point_buoys» .entry)) (length (now (out .entry))) (length (now («out_buoys» .entry)))) (now (count .entry)) ⌝ }
 {
     crate::written(
-        arcstring_split::insert::insert_vertices(
+        arcstring_insert::insert::insert_vertices(
             v,
             buoys,
             crate::is_closed(closed),
@@ -91,7 +91,7 @@ pub extern "C" fn arcstring_split_leg(
     ensures { λ _. ⌜ now (pieces .exit) ≡ leftIn piecesWritten (splitLeg (legOfSix (now (leg .entry))) (now (points .entry)) (length (now (out .entry)))) (now (pieces .entry)) ⌝ }
 {
     cut(
-        arcstring_split::split::split_arc_at_points(crate::leg_of(leg), points, out),
+        arcstring_split_leg::split::split_arc_at_points(crate::leg_of(leg), points, out),
         pieces,
     )
 }

@@ -11,7 +11,8 @@ ghost use Rattle.arcstring.specs.Point.{equalPoints, coplanarPoints, builtPoint
 ghost use Rattle.arcstring.specs.Build.{build, buildFlagged, builtFloats, builtBuoys};
 ghost use Rattle.arcstring.specs.Walk.{walkBack, restart, writtenAnswer, writtenFloats, withoutBuoys, writtenBuoys};
 ghost use Rattle.arcstring_crossing.specs.Crossing.{leg, legOf, classNumber, pairPoint, pairKept, arcsCrossing};
-ghost use Rattle.arcstring_crossing.specs.Listing.{counted, crossings, legCrossings, selfCrossings, crossesSelf, sameSide, listedAnswer, listedFloats, listedBytes};
+ghost use Rattle.arcstring_listing.specs.Listing.{counted, crossings, legCrossings, selfCrossings};
+ghost use Rattle.arcstring_listing.specs.Listing.{crossesSelf, sameSide, listedAnswer, listedFloats, listedBytes};
 ghost use Rattle.arcstring_c.specs.Numbers.{answerNumber, leftIn, flag, threeFloats, legOfSix, classByte, keptByte, pointOver, pointPlace, vertexCount, closedByte, fourCounts, keptCount, listingCounts, listedKept, listedCounts, runLength, runStart};
 
 pub mod edit;
@@ -26,9 +27,9 @@ use arcstring::walk::Written;
 use arcstring_crossing::crossing::Crossed;
 use arcstring_crossing::crossing::Outcome;
 use arcstring_crossing::crossing::Pair;
-use arcstring_crossing::listing::Counted;
-use arcstring_crossing::listing::Counts;
-use arcstring_crossing::listing::Listed;
+use arcstring_listing::listing::Counted;
+use arcstring_listing::listing::Counts;
+use arcstring_listing::listing::Listed;
 use sphericalpoint::SphericalPoint;
 
 fn byte(yes: bool) -> u8
@@ -341,7 +342,7 @@ pub extern "C" fn arcstring_count(
     ensures { λ r. ⌜ r ≡ answerNumber (counted (now (a .entry)) (flag «a_closed») (now (b .entry)) (flag «b_closed»)) ⌝ }
     ensures { λ _. ⌜ now (counts .exit) ≡ leftIn fourCounts (counted (now (a .entry)) (flag «a_closed») (now (b .entry)) (flag «b_closed»)) (now (counts .entry)) ⌝ }
 {
-    let r = arcstring_crossing::listing::count(a, is_closed(a_closed), b, is_closed(b_closed));
+    let r = arcstring_listing::listing::count(a, is_closed(a_closed), b, is_closed(b_closed));
     match r {
         Counted::Refused(e) => check::number(e),
         Counted::Counts(c) => {
@@ -381,7 +382,7 @@ pub extern "C" fn arcstring_leg_crossings(
     ensures { λ _. ⌜ now (kept .exit) ≡ leftIn keptCount (legCrossings (legOfSix (now (leg .entry))) (now (v .entry)) (flag closed) (length (now (points .entry))) (length (now (marks .entry)))) (now (kept .entry)) ⌝ }
     ensures { λ _. ⌜ now (counts .exit) ≡ leftIn listingCounts (legCrossings (legOfSix (now (leg .entry))) (now (v .entry)) (flag closed) (length (now (points .entry))) (length (now (marks .entry)))) (now (counts .entry)) ⌝ }
 {
-    let r = arcstring_crossing::listing::arc_crossings_with_arcstring(
+    let r = arcstring_listing::listing::arc_crossings_with_arcstring(
         leg_of(leg),
         v,
         is_closed(closed),
@@ -408,7 +409,7 @@ pub extern "C" fn arcstring_crossings(
     ensures { λ _. ⌜ now (kept .exit) ≡ leftIn keptCount (crossings (now (a .entry)) (flag «a_closed») (now (b .entry)) (flag «b_closed») (length (now (points .entry))) (length (now (marks .entry)))) (now (kept .entry)) ⌝ }
     ensures { λ _. ⌜ now (counts .exit) ≡ leftIn listingCounts (crossings (now (a .entry)) (flag «a_closed») (now (b .entry)) (flag «b_closed») (length (now (points .entry))) (length (now (marks .entry)))) (now (counts .entry)) ⌝ }
 {
-    let r = arcstring_crossing::listing::crossings(
+    let r = arcstring_listing::listing::crossings(
         a,
         is_closed(a_closed),
         b,
@@ -433,7 +434,7 @@ pub extern "C" fn arcstring_crossings_with_self(
     ensures { λ _. ⌜ now (kept .exit) ≡ leftIn keptCount (selfCrossings (now (v .entry)) (length (now (points .entry))) (length (now (marks .entry)))) (now (kept .entry)) ⌝ }
     ensures { λ _. ⌜ now (counts .exit) ≡ leftIn listingCounts (selfCrossings (now (v .entry)) (length (now (points .entry))) (length (now (marks .entry)))) (now (counts .entry)) ⌝ }
 {
-    let r = arcstring_crossing::listing::crossings_with_self(v, points, marks);
+    let r = arcstring_listing::listing::crossings_with_self(v, points, marks);
     list(r, kept, counts)
 }
 
@@ -443,7 +444,7 @@ pub extern "C" fn arcstring_crosses_self(v: &[f64], closed: u8, yes: &mut u8) ->
     ensures { λ _. ⌜ now (yes .exit) ≡ leftIn flagNumber (crossesSelf (now (v .entry)) (flag closed)) (now (yes .entry)) ⌝ }
 {
     decide(
-        arcstring_crossing::listing::crosses_self(v, is_closed(closed)),
+        arcstring_listing::listing::crosses_self(v, is_closed(closed)),
         yes,
     )
 }
@@ -466,7 +467,7 @@ pub extern "C" fn arcstring_same_side(
     let a = SphericalPoint::new(ax, ay, az);
     let b = SphericalPoint::new(bx, by, bz);
     decide(
-        arcstring_crossing::listing::points_are_on_same_side(a, b, v, is_closed(closed)),
+        arcstring_listing::listing::points_are_on_same_side(a, b, v, is_closed(closed)),
         yes,
     )
 }

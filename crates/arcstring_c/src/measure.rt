@@ -3,7 +3,7 @@ ghost use mathlib.Core.Path.{_≡_};
 ghost use lib.ListN.{length};
 ghost use Rattle.arcstring.specs.Answer.{leaves};
 ghost use Rattle.arcstring.specs.Walk.{writtenFloats};
-ghost use Rattle.arcstring_relation.specs.Measure.{turnOrientations, midpoints};
+ghost use Rattle.arcstring_measure.specs.Measure.{turnOrientations, midpoints};
 ghost use Rattle.arcstring_c.specs.Numbers.{answerNumber, leftIn, flag};
 
 #[no_mangle]
@@ -17,7 +17,7 @@ pub extern "C" fn arcstring_turn_orientations(
     ensures { λ _. ⌜ now (out .exit) ≡ leaves (turnOrientations (now (v .entry)) (flag closed) (length (now (out .entry)))) (now (out .entry)) ⌝ }
     ensures { λ _. ⌜ now (count .exit) ≡ leftIn length (turnOrientations (now (v .entry)) (flag closed) (length (now (out .entry)))) (now (count .entry)) ⌝ }
 {
-    let r = arcstring_relation::measure::xyzs_turn_orientations(v, crate::is_closed(closed), out);
+    let r = arcstring_measure::measure::xyzs_turn_orientations(v, crate::is_closed(closed), out);
     crate::written(r, count)
 }
 
@@ -32,6 +32,6 @@ pub extern "C" fn arcstring_midpoints(
     ensures { λ _. ⌜ now (out .exit) ≡ leaves (writtenFloats (midpoints (now (v .entry)) (flag closed) (length (now (out .entry))))) (now (out .entry)) ⌝ }
     ensures { λ _. ⌜ now (count .exit) ≡ leftIn length (midpoints (now (v .entry)) (flag closed) (length (now (out .entry)))) (now (count .entry)) ⌝ }
 {
-    let r = arcstring_relation::measure::midpoints(v, crate::is_closed(closed), out);
+    let r = arcstring_measure::measure::midpoints(v, crate::is_closed(closed), out);
     crate::written(r, count)
 }

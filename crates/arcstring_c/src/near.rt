@@ -2,7 +2,7 @@
 ghost use mathlib.Core.Path.{_≡_};
 ghost use Rattle.arcstring.specs.Answer.{flagNumber};
 ghost use Rattle.arcstring.specs.Points.{point};
-ghost use Rattle.arcstring_relation.specs.OnString.{along};
+ghost use Rattle.arcstring_along.specs.OnString.{along};
 ghost use Rattle.arcstring_relation.specs.Relation.{equal, crosses, within, contains};
 ghost use Rattle.arcstring_c.specs.Numbers.{answerNumber, leftIn, flag};
 use sphericalpoint::SphericalPoint;
@@ -22,12 +22,7 @@ pub extern "C" fn arcstring_along(
 {
     let p = SphericalPoint::new(x, y, z);
     crate::decide(
-        arcstring_relation::on_string::point_is_along_arcstring(
-            p,
-            v,
-            near,
-            crate::is_closed(closed),
-        ),
+        arcstring_along::on_string::point_is_along_arcstring(p, v, near, crate::is_closed(closed)),
         yes,
     )
 }

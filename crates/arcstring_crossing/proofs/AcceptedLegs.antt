@@ -1,5 +1,5 @@
--- The legs of an accepted string, and an accepted leg, have coordinates from -1 to 1, so that the laws of `Finite` hold of them; and a leg in range is accepted.
--- Assumes nothing.
+-- The legs of an accepted string, and an accepted leg, have coordinates from -1 to 1, so that the laws of `Finite` hold of them, as `specs/FiniteLaws.antt`
+-- has it; and a leg in range is accepted. Assumes nothing.
 use mathlib.Core.Path.{_≡_, refl, sym, subst}
 use mathlib.Core.Logic.{_⊎_, inl, inr}
 use mathlib.Core.Bool.{Bool, true, false, _&&_}
@@ -13,8 +13,9 @@ use Rattle.arcstring.specs.Check.{inRange, allInRange, storedCheck, pointCheck}
 use Rattle.arcstring.proofs.Answers.{first-passes, second-passes}
 use Rattle.arcstring.proofs.Checks.{true-of, if-none-not, stored-whole}
 use Rattle.arcstring_crossing.specs.Crossing.{Leg, legCheck}
-use Rattle.arcstring_crossing.specs.Listing.{chain, legs}
-use Rattle.arcstring_crossing.proofs.Finite.{PointInRange, LegInRange}
+use Rattle.arcstring_crossing.specs.FiniteLaws.{PairsFinite}
+use Rattle.arcstring_crossing.specs.Leg.{chain, legs}
+use Rattle.arcstring_crossing.proofs.Finite.{PointInRange, LegInRange, meeting-finite, sides-finite, side-trichotomy}
 
 holds : {b : Bool} → b ≡ true → T b
 holds e = subst T (sym e) tt
@@ -37,6 +38,12 @@ accepted-leg-in-range l h =
       from = point-passed (l .from) (first-passes (pointCheck (l .from)) (pointCheck (l .to)) h);
       to = point-passed (l .to) (second-passes (pointCheck (l .from)) (pointCheck (l .to)) h);
     }
+
+pub pairs-finite : PairsFinite
+pairs-finite a b h k =
+    let i = accepted-leg-in-range a h in
+    let j = accepted-leg-in-range b k in
+    record { point-finite = meeting-finite a b i j; sides-finite = sides-finite a b i j; one-of-three = side-trichotomy a b i j }
 
 point-passes : (p : SphericalPoint) → PointInRange p → pointCheck p ≡ 0
 unfolding pointCheck

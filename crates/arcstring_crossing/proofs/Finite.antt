@@ -1,7 +1,7 @@
 -- For two legs with coordinates from -1 to 1 the meeting point and the four side values are finite: no NaN, no infinity. So each side value is exactly one of
 -- zero, above zero and below zero. Assumes nothing.
 use mathlib.Core.Path.{_≡_, refl, sym, subst}
-use mathlib.Core.Bool.{Bool, true, false}
+use mathlib.Core.Bool.{true, false}
 use mathlib.Core.List.{[], _∷_, List·Memᴰ, List·Memᴰ·head, List·Memᴰ·tail, List·Memᴰ·eq-of-singleton}
 use Prim.Native.Nat.{ℕ, zero, suc, _+_, _*_, _≤_, _<_}
 use native.Mathlib.Nat.{mul-pos}
@@ -21,14 +21,9 @@ use Rattle.sphericalpoint.specs.Vector.{xyzMul, xyzNeg, xyzSum, xyzDot, xyzCros
 use Rattle.arcstring.specs.Check.{inRange}
 use Rattle.arcstring.proofs.Checks.{range-bound}
 use Rattle.arcstring_crossing.specs.Crossing.{Leg, normal, meeting, sideFrom, sideTo, sideValues, zeroFloat, grazes, isAbove, isBelow}
+use Rattle.arcstring_crossing.specs.FiniteLaws.{EachAtMost, ExactlyOne, onlyFirst, onlySecond, onlyThird}
 
 -- ---- bounds on the size of a vector's coordinates
-
--- each coordinate is finite, and its size is at most 2 ^ k
-pub record EachAtMost (k : ℕ) (u : SphericalPoint) : Type 0 where
-  pub x : AtMost k (u .x)
-  pub y : AtMost k (u .y)
-  pub z : AtMost k (u .z)
 
 neg-bound : (k : ℕ) (u : SphericalPoint) → EachAtMost k u → EachAtMost k (xyzNeg u)
 unfolding xyzNeg
@@ -97,11 +92,6 @@ module _ (l : Leg) (h : LegInRange l) where
     sideTo-bound = dot-bound 2 3 (xyzCross (l .to) (normal l)) t (arm-bound (l .to) (h .to)) k (omega arith)
 
 -- ---- a finite float is zero, above zero or below zero
-
-pub data ExactlyOne : Bool → Bool → Bool → Type 0 where
-  onlyFirst : ExactlyOne true false false
-  onlySecond : ExactlyOne false true false
-  onlyThird : ExactlyOne false false true
 
 abbrev OneOf : Float → Type 0
 OneOf x = ExactlyOne (grazes x) (isAbove x) (isBelow x)

@@ -18,7 +18,7 @@ use Rattle.arcstring_crossing.specs.declared.crossing.Pair.the-variants.
 use Rattle.arcstring_crossing.specs.declared.crossing.Plane.{Plane}
 use Rattle.arcstring_crossing.specs.Crossing.{Leg, leg, pairOf, classAt}
 use Rattle.arcstring_crossing.specs.Plane.{planeLeg, planeOf, planeSides, runAt, putRun, PlaneAt, AllApart, FlagsOf}
-use Rattle.arcstring_crossing.specs.Tally.{legAt}
+use Rattle.arcstring_crossing.specs.Leg.{legAt}
 use Rattle.arcstring_crossing.proofs.Classes.{planes-class}
 
 -- ---- a place in the list is one run's and one place's only

@@ -14,8 +14,7 @@ use Rattle.sphericalpoint.specs.declared.SphericalPoint.{SphericalPoint}
 use Rattle.arcstring.specs.Points.{points, pointAt, noPoint}
 use Rattle.arcstring.proofs.Flat.{length-points, point-at}
 use Rattle.arcstring_crossing.specs.Crossing.{Leg, leg}
-use Rattle.arcstring_crossing.specs.Listing.{chain, legs}
-use Rattle.arcstring_crossing.specs.Tally.{legAt, legsFrom, legCount}
+use Rattle.arcstring_crossing.specs.Leg.{chain, legs, legAt, legsFrom, legCount, legFloats}
 
 -- ---- a chain of points
 
@@ -45,6 +44,11 @@ pub open-legs : (ps : List SphericalPoint) → legs ps false ≡ take (length ps
 unfolding legs
 open-legs [] = refl
 open-legs (u ∷ vs) = let e : suc (length vs) - 1 ≡ length vs = omega arith in rw e (sym (chain-front u vs (u ∷ [])))
+
+pub length-open-legs : (ps : List SphericalPoint) → length (legs ps false) ≡ length ps - 1
+unfolding legs
+length-open-legs [] = refl
+length-open-legs (u ∷ vs) = length-chain u vs ∙ omega arith
 
 leg-to-next : (ps : List SphericalPoint) (k : ℕ) (d : Leg) (p : SphericalPoint) → k + 1 < length ps
     → getD (legs ps true) k d ≡ leg (getD ps k p) (getD ps (k + 1) p)
@@ -138,3 +142,9 @@ closed-count n closed h = rw h
 pub open-count : (n : ℕ) (closed : Bool) → closed ≡ false → n - 1 ≡ legCount n closed
 unfolding legCount
 open-count n closed h = rw h
+
+-- ---- a leg as a string of two vertices
+
+pub leg-as : (l : Leg) (a : List Float) → a ≡ legFloats l → legAt a 2 0 ≡ l
+unfolding legAt legFloats
+leg-as l a h = rw h

@@ -17,9 +17,10 @@ use Rattle.arcstring_crossing.specs.declared.crossing.Outcome.the-varian
 use Rattle.arcstring_crossing.specs.Crossing.{Leg, normal, meeting, sideFrom, sideTo, sideValues, grazes, isAbove, isBelow, signNegative, signPositive}
 use Rattle.arcstring_crossing.specs.Crossing.{someSide, everySide, atEnd, keptOrDropped, grazingOutcome, endOrClean, classAt, pairOf}
 use Rattle.arcstring_crossing.specs.Crossing.{Judged, judged, keptPoint, legCheck, arcsCrossing}
+use Rattle.arcstring_crossing.specs.FiniteLaws.{ExactlyOne, onlyFirst, onlySecond, onlyThird}
 use Rattle.arcstring_crossing.specs.PairLaws.{rustCrossing, rustKept, answersEnd, InWords, PairsInWords, PairCallInWords, StringLegsAccepted, JudgedApart}
 use Rattle.arcstring_crossing.proofs.Signs.{negative-of-other, positive-of-other}
-use Rattle.arcstring_crossing.proofs.Finite.{ExactlyOne, onlyFirst, onlySecond, onlyThird, side-trichotomy}
+use Rattle.arcstring_crossing.proofs.Finite.{side-trichotomy}
 use Rattle.arcstring_crossing.proofs.AcceptedLegs.{accepted-leg-in-range, accepted-legs-in-range, in-range-accepted}
 
 -- ---- the tests of one side value, and of all

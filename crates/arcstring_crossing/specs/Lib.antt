@@ -1,8 +1,7 @@
--- The definitions of pairs of legs, their counts and listings, and of what is claimed of a pair (`PairLaws`) and by demand 3 (`Changes`).
--- `Plane` and `Tally` serve inner contracts alone.
+-- The definitions of pairs of legs and of a string's legs, and of what is claimed of a pair (`PairLaws`) and of the floats that it is judged by (`FiniteLaws`).
+-- `Plane` serves inner contracts alone.
 pub mod Crossing
+pub mod Leg
 pub mod Plane
-pub mod Listing
 pub mod PairLaws
-pub mod Tally
-pub mod Changes
+pub mod FiniteLaws

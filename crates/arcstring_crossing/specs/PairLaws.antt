@@ -15,7 +15,7 @@ use Rattle.arcstring.specs.Check.{storedCheck}
 use Rattle.arcstring_crossing.specs.declared.crossing.Pair.{Pair}
 use Rattle.arcstring_crossing.specs.Crossing.{Leg, meeting, sideValues, grazes, isAbove, isBelow, signNegative, signPositive, someSide, everySide}
 use Rattle.arcstring_crossing.specs.Crossing.{atEnd, pairOf, Judged, judged, keptPoint, legCheck, arcsCrossing}
-use Rattle.arcstring_crossing.specs.Listing.{legs}
+use Rattle.arcstring_crossing.specs.Leg.{legs}
 
 -- ---- the Rust's own expressions
 

@@ -14,7 +14,7 @@ use Rattle.arcstring.specs.Answer.{pick}
 use Rattle.arcstring.specs.Points.{point}
 use Rattle.arcstring_crossing.specs.declared.crossing.Pair.the-variants.{Apart}
 use Rattle.arcstring_crossing.specs.Crossing.{Leg, leg, normal, pairOf, grazes, isAbove, isBelow, someSide}
-use Rattle.arcstring_crossing.specs.Tally.{legAt}
+use Rattle.arcstring_crossing.specs.Leg.{legAt}
 
 abbrev pub planeLeg : Plane → Leg
 planeLeg a = leg (a .from) (a .to)

@@ -7,7 +7,7 @@ ghost use Rattle.sphericalpoint.specs.Vector.{xyzDot};
 ghost use Rattle.arcstring.specs.Answer.{pick};
 ghost use Rattle.arcstring.specs.Check.{checkNumber};
 ghost use Rattle.arcstring_crossing.specs.Plane.{planeOf, showsApart};
-ghost use Rattle.arcstring_crossing.specs.Tally.{legFloats};
+ghost use Rattle.arcstring_crossing.specs.Leg.{legFloats};
 ghost use Rattle.arcstring_crossing.specs.Crossing.{leg, legOf, grazes, isAbove, isBelow, signNegative, signPositive, someSide, everySide, atEnd};
 ghost use Rattle.arcstring_crossing.specs.Crossing.{keptOrDropped, grazingOutcome, endOrClean, classAt, pairOf, legCheck, arcsCrossing, crossedAnswer};
 use crate::planes;
@@ -60,7 +60,7 @@ pub fn end_of(arc: [[f64; 3]; 2]) -> SphericalPoint
 
 // What the pair test takes of a leg: its ends, its own cross product, and the vectors whose dot products with the
 // meeting of two legs are its side values. It is worked out once for a leg that is tested against many.
-pub(crate) struct Plane {
+pub struct Plane {
     pub from: SphericalPoint,
     pub to: SphericalPoint,
     pub normal: SphericalPoint,
@@ -294,7 +294,7 @@ pub(crate) fn class_at(
 }
 
 // A leg as a string of two vertices.
-pub(crate) fn leg_string(arc: [[f64; 3]; 2]) -> [f64; 6]
+pub fn leg_string(arc: [[f64; 3]; 2]) -> [f64; 6]
     ensures { λ r. ⌜ r ≡ legFloats (legOf arc) ⌝ }
 {
     [

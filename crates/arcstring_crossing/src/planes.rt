@@ -13,11 +13,11 @@ ghost use Rattle.arcstring_crossing.specs.Crossing.{Leg, leg, pairOf};
 ghost use Rattle.arcstring_crossing.specs.declared.crossing.Pair.the-variants.{Apart};
 ghost use Rattle.arcstring_crossing.specs.declared.crossing.Plane.{Plane};
 ghost use Rattle.arcstring_crossing.specs.Plane.{planeLeg, planeOf, runAt, putRun, PlaneAt, PlanesOf, AllApart, FlagsOf, flaggedFrom};
-ghost use Rattle.arcstring_crossing.specs.Tally.{legAt};
+ghost use Rattle.arcstring_crossing.specs.Leg.{legAt};
 use crate::crossing;
 use crate::crossing::Pair;
 use crate::crossing::Plane;
-use crate::tally;
+use crate::leg;
 use arcstring::vertex;
 use sphericalpoint::SphericalPoint;
 
@@ -55,13 +55,13 @@ fn put_plane(planes: &mut [f64], width: usize, k: usize, p: Plane)
 }
 
 // The planes of the first `l` legs of a string.
-pub(crate) fn keep_planes(v: &[f64], n: usize, l: usize, planes: &mut [f64], width: usize)
+pub fn keep_planes(v: &[f64], n: usize, l: usize, planes: &mut [f64], width: usize)
     requires { ⌜ (length (now v) ≡ 3 * n) × (l ≤ n) × (l ≤ width) × (width ≤ 1024) × (9 * width ≤ length (now planes)) ⌝ }
     ensures { λ _. ⌜ PlanesOf (now (v .entry)) n l (now (planes .exit)) width ⌝ }
 {
     let mut k = 0;
     while k < l {
-        put_plane(planes, width, k, tally::leg_plane(v, n, k));
+        put_plane(planes, width, k, leg::leg_plane(v, n, k));
         k += 1;
     }
 }
@@ -75,7 +75,7 @@ fn leg_end(n: usize, k: usize) -> usize
 }
 
 // The class of a pair of legs, by what was worked out for each: of the second, leg k of a string.
-pub(crate) fn pair_at(a: Plane, planes: &[f64], width: usize, v: &[f64], n: usize, k: usize) -> Pair
+pub fn pair_at(a: Plane, planes: &[f64], width: usize, v: &[f64], n: usize, k: usize) -> Pair
     requires { ⌜ (length (now v) ≡ 3 * n) × (k < n) × (9 * width ≤ length (now planes)) × (k < width) × (width ≤ 1024) ⌝ }
     requires { ⌜ (a ≡ planeOf (planeLeg a)) × PlaneAt (now planes) width k (planeOf (legAt (now v) n k)) ⌝ }
     ensures { λ r. ⌜ r ≡ pairOf (planeLeg a) (legAt (now (v .entry)) n k) ⌝ }
@@ -103,7 +103,7 @@ fn flag_at(a: Plane, planes: &[f64], width: usize, k: usize) -> usize
 }
 
 // The flags of a leg's pairs with the legs from position `from` up to `to`, and how many are not 0.
-pub(crate) fn flag_row(
+pub fn flag_row(
     a: Plane,
     planes: &[f64],
     width: usize,
@@ -136,7 +136,7 @@ fn next_place(n: usize, flag: usize) -> usize
 
 // The positions from `from` up to `to` whose flag is set, in sequence, and how many they are. Each position is written
 // and counted only if its flag is set, so that there is no branch to go the wrong way.
-pub(crate) fn gather(flags: &[usize], from: usize, to: usize, flagged: &mut [usize]) -> usize
+pub fn gather(flags: &[usize], from: usize, to: usize, flagged: &mut [usize]) -> usize
     requires { ⌜ (to ≤ length (now flags)) × (to ≤ length (now flagged)) × (to ≤ 1024) ⌝ }
     ensures { λ r. ⌜ (r ≤ to - from) × (r ≤ length (now (flagged .exit))) × (take r (now (flagged .exit))
         ≡ flaggedFrom (now (flags .entry)) from (to - from)) ⌝ }

@@ -1,6 +1,2 @@
--- The laws of points on strings, of comparisons, turns and midpoints. For others to cite: `NearEntries` and `Relations`. The rest serves the functions' proofs.
-pub mod NearEntries
+-- The laws of comparisons. For others to cite: `Relations`, the theorem of `specs/RelationLaws.antt` among them.
 pub mod Relations
-mod AlongLegs
-mod Turns
-mod Midpoints

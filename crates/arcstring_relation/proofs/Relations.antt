@@ -2,7 +2,7 @@
 use mathlib.Core.Path.{_≡_, refl, sym, ap, ap₂, _∙_}
 use mathlib.Core.Bool.{Bool, true, false, not, _&&_, _||_, and-true}
 use mathlib.Core.List.{List, [], _∷_}
-use Prim.Native.Nat.{ℕ, _+_, _-_, _*_, _/_, _≤_, _<_}
+use Prim.Native.Nat.{ℕ, zero, suc, _+_, _-_, _*_, _/_, _≤_, _<_}
 use native.Mathlib.Omega.{arith}
 use lib.Dec.{ltb}
 use lib.ListN.{length, getD, drop, drop-of-length-le}
@@ -10,18 +10,20 @@ use lib.Ieee.{Float}
 use borrow.Author.Tests.{lt-ltb, le-ltb}
 use Rattle.sphericalpoint.specs.declared.SphericalPoint.{SphericalPoint}
 use Rattle.sphericalpoint.specs.Point.{normalizedUnlessShort}
-use Rattle.arcstring.specs.Answer.{pick}
+use Rattle.arcstring.specs.Answer.{Answer, answered, unlessRefused, pick}
 use Rattle.arcstring.specs.Points.{ArcString, points, pointAt, noPoint}
 use Rattle.arcstring.specs.Check.{storedCheck}
 use Rattle.arcstring.proofs.Checks.{stored-whole, stored-some}
 use Rattle.arcstring.proofs.Flat.{points-next, point-at, length-points, count-points}
-use Rattle.arcstring_crossing.specs.declared.tally.Tally.{Tally}
-use Rattle.arcstring_crossing.specs.Listing.{legs, pairsBetween, keptMarks, visited}
-use Rattle.arcstring_crossing.specs.Tally.{noTally, tallyOn}
-use Rattle.arcstring_crossing.proofs.Tallies.{tally-kept}
-use Rattle.arcstring_relation.specs.OnString.{isNear, nearSome, alongString, stored}
+use Rattle.arcstring_crossing.specs.Leg.{legs}
+use Rattle.arcstring_listing.specs.declared.tally.Tally.{Tally}
+use Rattle.arcstring_listing.specs.Listing.{pairsBetween, keptMarks, visited}
+use Rattle.arcstring_listing.specs.Tally.{noTally, tallyOn}
+use Rattle.arcstring_listing.proofs.Tallies.{tally-kept}
+use Rattle.arcstring_along.specs.OnString.{isNear, nearSome, alongString, stored}
 use Rattle.arcstring_relation.specs.Relation.{firstEnd, lastEnd, boundary, allNear, boundariesMeet, sameBoundary, allAlong, eachAlong, equalStrings, withinString, crossesString, within, contains}
-use Rattle.arcstring_relation.proofs.NearEntries.{near-cons, near-one}
+use Rattle.arcstring_relation.specs.RelationLaws.{verdictOf, ContainsIsWithin}
+use Rattle.arcstring_along.proofs.NearEntries.{near-cons, near-one}
 
 -- ---- each vertex along a string: q the vertex at k as the code has it, b whether it is along the string
 
@@ -138,8 +140,19 @@ module _ (shorter longer : ArcString) (x : Bool) (known : x ≡ allAlong (longer
   unfolding eachAlong
   each-go r e h = h ∙ sym (ap (λ (t : Bool). t && allAlong (shorter .vertices) longer) (sym known ∙ e))
 
--- ---- `contains` is `within` with the strings traded, where no list is refused
+-- ---- `contains` is `within` with the strings traded
 
-pub contains-is-within : (a aNear : List Float) (aClosed : Bool) (b : List Float) → storedCheck a ≡ 0 → storedCheck aNear ≡ 0 → storedCheck b ≡ 0 → contains a aNear aClosed b ≡ within b a aNear aClosed
+-- three checks in another order, the third first
+third-first : (k m n : ℕ) (x : Answer Bool)
+    → verdictOf (unlessRefused k (unlessRefused m (unlessRefused n x))) ≡ verdictOf (unlessRefused n (unlessRefused k (unlessRefused m x)))
+third-first zero zero zero x = refl
+third-first zero zero (suc n) x = refl
+third-first zero (suc m) zero x = refl
+third-first zero (suc m) (suc n) x = refl
+third-first (suc k) m zero x = refl
+third-first (suc k) m (suc n) x = refl
+
+pub contains-is-within : ContainsIsWithin
 unfolding contains within
-contains-is-within a aNear aClosed b ha hn hb = rw (ha, hn, hb)
+contains-is-within a aNear aClosed b =
+    third-first (storedCheck a) (storedCheck aNear) (storedCheck b) (answered (allAlong (points b) (stored a aNear aClosed)))

@@ -1,4 +1,3 @@
--- The definitions of a point on a string, of comparisons, turns and midpoints.
-pub mod OnString
+-- The definitions of comparisons, and what is claimed of `contains` (`RelationLaws`).
 pub mod Relation
-pub mod Measure
+pub mod RelationLaws

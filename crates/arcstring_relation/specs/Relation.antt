@@ -10,8 +10,9 @@ use Rattle.sphericalpoint.specs.Point.{normalizedUnlessShort}
 use Rattle.arcstring.specs.Answer.{Answer, answered, unlessRefused, pick}
 use Rattle.arcstring.specs.Points.{ArcString, points, noPoint}
 use Rattle.arcstring.specs.Check.{storedCheck}
-use Rattle.arcstring_crossing.specs.Listing.{legs, pairsBetween, keptMarks}
-use Rattle.arcstring_relation.specs.OnString.{nearSome, alongString, stored}
+use Rattle.arcstring_crossing.specs.Leg.{legs}
+use Rattle.arcstring_listing.specs.Listing.{pairsBetween, keptMarks}
+use Rattle.arcstring_along.specs.OnString.{nearSome, alongString, stored}
 
 -- ---- boundaries
 

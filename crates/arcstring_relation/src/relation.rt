@@ -6,15 +6,15 @@ ghost use Rattle.arcstring.specs.Answer.{firstOf};
 ghost use Rattle.arcstring.specs.Points.{points};
 ghost use Rattle.arcstring.specs.Check.{checkNumber, storedCheck};
 ghost use Rattle.arcstring.specs.Point.{decidedAnswer};
-ghost use Rattle.arcstring_relation.specs.OnString.{nearSome, stored};
+ghost use Rattle.arcstring_along.specs.OnString.{nearSome, stored};
 ghost use Rattle.arcstring_relation.specs.Relation.{firstEnd, lastEnd, boundary, boundariesMeet, allNear, allAlong, equalStrings, crossesString, equal};
 ghost use Rattle.arcstring_relation.specs.Relation as Relation;
-use crate::on_string;
 use arcstring::check;
 use arcstring::check::Checked;
 use arcstring::check::Decided;
 use arcstring::vertex;
-use arcstring_crossing::listing;
+use arcstring_along::on_string;
+use arcstring_listing::listing;
 use sphericalpoint::SphericalPoint;
 
 // Whether every vertex of a list is along a string.

@@ -20,7 +20,7 @@ use Rattle.arcstring.proofs.Answers.{pass}
 use Rattle.arcstring.proofs.Checks.{stored-whole}
 use Rattle.arcstring.proofs.Flat.{points-flat, length-flat}
 use Rattle.arcstring.proofs.Rooms.{room-into}
-use Rattle.arcstring_relation.specs.OnString.{stored}
+use Rattle.arcstring_along.specs.OnString.{stored}
 use Rattle.arcstring_simplify.specs.Simplify.{simplified, simplifyPoints}
 use Rattle.arcstring_simplify.specs.Relation.{simplifiedString}
 use Rattle.arcstring_simplify.proofs.SimplifiedAccepted.{simplified-accepted}

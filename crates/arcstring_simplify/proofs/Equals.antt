@@ -12,7 +12,7 @@ use Rattle.arcstring.specs.Answer.{Answer, refused, answered, andThen, mapAnswe
 use Rattle.arcstring.specs.Points.{ArcString, points, copied}
 use Rattle.arcstring.proofs.Flat.{count-points}
 use Rattle.arcstring.proofs.Answers.{then-refused, then-answered}
-use Rattle.arcstring_relation.specs.OnString.{stored}
+use Rattle.arcstring_along.specs.OnString.{stored}
 use Rattle.arcstring_relation.specs.Relation.{equalStrings}
 use Rattle.arcstring_simplify.specs.Relation.{orElse, simplifiedString, equalsLonger, equalsSimplified, equalsString, sameSimplified, overlapsApart, overlapsString}
 

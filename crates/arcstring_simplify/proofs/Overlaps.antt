@@ -10,7 +10,7 @@ use Rattle.sphericalpoint.specs.declared.SphericalPoint.{SphericalPoint}
 use Rattle.arcstring.specs.Answer.{Answer, refused, answered, pick}
 use Rattle.arcstring.specs.Points.{ArcString, points, pointAt}
 use Rattle.arcstring.proofs.Flat.{points-next, length-points}
-use Rattle.arcstring_relation.specs.OnString.{alongString, stored}
+use Rattle.arcstring_along.specs.OnString.{alongString, stored}
 use Rattle.arcstring_relation.specs.Relation.{allAlong, withinString}
 use Rattle.arcstring_simplify.specs.Relation.{orElse, overlapLegs, overlapsApart}
 

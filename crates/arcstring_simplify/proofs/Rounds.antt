@@ -10,6 +10,7 @@ use borrow.Author.Tests.{le-leb, lt-leb, eq-eqb, ne-eqb, leb-false, eqb-false}
 use Rattle.sphericalpoint.specs.declared.SphericalPoint.{SphericalPoint}
 use Rattle.arcstring.specs.Answer.{Answer, refused, answered, andThen, pick}
 use Rattle.arcstring_simplify.specs.Simplify.{unnecessaryPositions, removeAll, isSimple, rounds, simplified}
+use Rattle.arcstring_simplify.specs.SimplifyLaws.{RoundsEnough}
 use Rattle.arcstring_simplify.proofs.Removals.{removed-shorter}
 
 -- ---- simple or not
@@ -73,22 +74,23 @@ module _ {A : Type 0} (pt : A → SphericalPoint) where
       (λ qs e. rest qs (shorter (map pt ps) closed ps s qs e))
       ∙ sym (rounds-step g closed ps s)
 
-  pub rounds-enough : (f g : ℕ) (closed : Bool) (ps : List A) → length ps ≤ f → length ps ≤ g → rounds pt f closed ps ≡ rounds pt g closed ps
-  rounds-enough zero g closed ps h l =
-      let s = few-simple (map pt ps) closed (omega (arith, length-map ps pt)) in
-      rounds-simple zero closed ps s ∙ sym (rounds-simple g closed ps s)
-  rounds-enough (suc f) zero closed ps h l =
-      let s = few-simple (map pt ps) closed (omega (arith, length-map ps pt)) in
-      rounds-simple (suc f) closed ps s ∙ sym (rounds-simple zero closed ps s)
-  rounds-enough (suc f) (suc g) closed ps h l =
-      enough-by (isSimple (map pt ps) closed) f g closed ps refl (λ qs e. rounds-enough f g closed qs (omega arith) (omega arith))
+pub rounds-enough : RoundsEnough
+rounds-enough A pt zero g closed ps h l =
+    let s = few-simple (map pt ps) closed (omega (arith, length-map ps pt)) in
+    rounds-simple pt zero closed ps s ∙ sym (rounds-simple pt g closed ps s)
+rounds-enough A pt (suc f) zero closed ps h l =
+    let s = few-simple (map pt ps) closed (omega (arith, length-map ps pt)) in
+    rounds-simple pt (suc f) closed ps s ∙ sym (rounds-simple pt zero closed ps s)
+rounds-enough A pt (suc f) (suc g) closed ps h l =
+    enough-by pt (isSimple (map pt ps) closed) f g closed ps refl (λ qs e. rounds-enough A pt f g closed qs (omega arith) (omega arith))
 
-  -- ---- simplified, by what a round leaves
+-- ---- simplified, by what a round leaves
 
+module _ {A : Type 0} (pt : A → SphericalPoint) where
   module _ (closed : Bool) (ps : List A) where
     pub simple-stays : isSimple (map pt ps) closed ≡ true → simplified pt closed ps ≡ answered ps
     unfolding simplified
-    simple-stays s = rounds-simple (length ps) closed ps s
+    simple-stays s = rounds-simple pt (length ps) closed ps s
 
     -- two vertices at most
     pub few-stay : length ps ≤ 2 → simplified pt closed ps ≡ answered ps
@@ -98,10 +100,10 @@ module _ {A : Type 0} (pt : A → SphericalPoint) where
         → simplified pt closed ps ≡ andThen (removeAll (unnecessaryPositions (map pt ps) closed) ps) (simplified pt closed)
     unfolding simplified
     simplified-step s =
-        rounds-enough (length ps) (suc (length ps)) closed ps (omega arith) (omega arith)
-        ∙ rounds-step (length ps) closed ps s
-        ∙ same-rest (removeAll (unnecessaryPositions (map pt ps) closed) ps) (rounds pt (length ps) closed) (simplified pt closed)
-        (λ qs e. rounds-enough (length ps) (length qs) closed qs (let l = shorter (map pt ps) closed ps s qs e in omega arith) (omega arith))
+        rounds-enough A pt (length ps) (suc (length ps)) closed ps (omega arith) (omega arith)
+        ∙ rounds-step pt (length ps) closed ps s
+        ∙ same-rest pt (removeAll (unnecessaryPositions (map pt ps) closed) ps) (rounds pt (length ps) closed) (simplified pt closed)
+        (λ qs e. rounds-enough A pt (length ps) (length qs) closed qs (let l = shorter (map pt ps) closed ps s qs e in omega arith) (omega arith))
 
     module _ (more : 2 < length ps) where
       -- nothing is removed

@@ -1,5 +1,5 @@
--- What simplifying keeps: what holds of a string and stays with every vertex but vertex 0 that is removed holds of the simplified string; it is simple, no longer, begins with
--- the same vertex; an open string is never refused, and a closed one only by 5. Assumes nothing.
+-- What simplifying keeps: what holds of a string and stays with every vertex but vertex 0 that is removed holds of the simplified string; it is simple, no
+-- longer, begins with the same vertex; an open string is never refused, and a closed one only by 5. Assumes nothing.
 use mathlib.Core.Path.{_≡_, refl, sym, ap, subst, _∙_}
 use mathlib.Core.Bool.{Bool, true, false}
 use mathlib.Core.List.{List, [], _∷_, _++_, map}
@@ -12,6 +12,7 @@ use borrow.Author.Tests.{ltb-true}
 use Rattle.sphericalpoint.specs.declared.SphericalPoint.{SphericalPoint}
 use Rattle.arcstring.specs.Answer.{Answer, refused, answered, andThen, pick}
 use Rattle.arcstring_simplify.specs.Simplify.{unnecessary, unnecessaryFrom, unnecessaryPositions, removeAt, removeAll, isSimple, rounds, simplified}
+use Rattle.arcstring_simplify.specs.SimplifyLaws.{SimplifiedAgain, OpenNeverRefused, RefusedByFive, FirstVertexStays, NoLonger}
 use Rattle.arcstring_simplify.specs.Kept.{keptVertices}
 use Rattle.arcstring_simplify.proofs.Removals.{removed-in-turn}
 use Rattle.arcstring_simplify.proofs.OneRound.{round-open}
@@ -82,22 +83,14 @@ module _ {A : Type 0} (pt : A → SphericalPoint) where
     unfolding simplified
     simplified-keeps closed ps qs h p = rounds-keep (length ps) closed ps qs h p
 
-  -- ---- the length, and vertex 0
+  -- ---- one vertex less: the length, and vertex 0
 
   one-gone : (k : ℕ) (ps : List A) → k < length ps → length (take k ps ++ drop (k + 1) ps) ≤ length ps
   one-gone k ps h = omega (arith, length-append (take k ps) (drop (k + 1) ps), length-take-le k ps (omega arith), length-drop (k + 1) ps)
 
-  pub simplified-no-longer : (closed : Bool) (ps qs : List A) → simplified pt closed ps ≡ answered qs → length qs ≤ length ps
-  simplified-no-longer closed ps qs h =
-      simplified-keeps (λ (rs : List A). length rs ≤ length ps) (λ k rs low high p. let l = one-gone k rs high in omega arith) closed ps qs h (omega arith)
-
   first-after : (k : ℕ) (ps : List A) → 1 ≤ k → k < length ps → take 1 (take k ps ++ drop (k + 1) ps) ≡ take 1 ps
   first-after k ps low high =
       take-append-le 1 (take k ps) (drop (k + 1) ps) (omega (arith, length-take-le k ps (omega arith))) ∙ take-take 1 k ps low
-
-  pub first-vertex-stays : (closed : Bool) (ps qs : List A) → simplified pt closed ps ≡ answered qs → take 1 qs ≡ take 1 ps
-  first-vertex-stays closed ps qs h =
-      simplified-keeps (λ (rs : List A). take 1 rs ≡ take 1 ps) (λ k rs low high p. first-after k rs low high ∙ p) closed ps qs h refl
 
   -- ---- once simplified, always simplified
 
@@ -122,9 +115,6 @@ module _ {A : Type 0} (pt : A → SphericalPoint) where
   unfolding simplified
   simplified-simple closed ps qs h = rounds-end-simple (length ps) closed ps qs (omega arith) h
 
-  pub simplified-again : (closed : Bool) (ps qs : List A) → simplified pt closed ps ≡ answered qs → simplified pt closed qs ≡ answered qs
-  simplified-again closed ps qs h = simple-stays pt closed qs (simplified-simple closed ps qs h)
-
   -- ---- what is refused
 
   open-by : (b : Bool) (more : ℕ) (ps : List A) → isSimple (map pt ps) false ≡ b → ((rs : List A) → (qs : List A) × (rounds pt more false rs ≡ answered qs))
@@ -144,11 +134,6 @@ module _ {A : Type 0} (pt : A → SphericalPoint) where
   unfolding rounds
   open-rounds zero ps = (ps, refl)
   open-rounds (suc more) ps = open-by (isSimple (map pt ps) false) more ps refl (open-rounds more)
-
-  -- an open string is simplified to some string, whatever it is
-  pub open-never-refused : (ps : List A) → (qs : List A) × (simplified pt false ps ≡ answered qs)
-  unfolding simplified
-  open-never-refused ps = open-rounds (length ps) ps
 
   same-refusal : {B : Type 0} (m n : ℕ) → _≡_ {A = Answer B} (refused m) (refused n) → m ≡ n
   same-refusal m n h = cc
@@ -182,7 +167,25 @@ module _ {A : Type 0} (pt : A → SphericalPoint) where
   rounds-refuse zero closed ps n h = absurd (let z : _≡_ {A = ℕ} 0 1 = cc in omega arith)
   rounds-refuse (suc more) closed ps n h = rounds-refuse-by (isSimple (map pt ps) closed) more closed ps n refl (rounds-refuse more closed) h
 
-  -- a closed one is refused by 5 or not at all
-  pub refused-by-five : (closed : Bool) (ps : List A) (n : ℕ) → simplified pt closed ps ≡ refused n → n ≡ 5
-  unfolding simplified
-  refused-by-five closed ps n h = rounds-refuse (length ps) closed ps n h
+-- ---- what is claimed
+
+pub simplified-again : SimplifiedAgain
+simplified-again A pt closed ps qs h = simple-stays pt closed qs (simplified-simple pt closed ps qs h)
+
+-- an open string is simplified to some string, whatever it is
+pub open-never-refused : OpenNeverRefused
+unfolding simplified
+open-never-refused A pt ps = open-rounds pt (length ps) ps
+
+-- a closed one is refused by 5 or not at all
+pub refused-by-five : RefusedByFive
+unfolding simplified
+refused-by-five A pt closed ps n h = rounds-refuse pt (length ps) closed ps n h
+
+pub first-vertex-stays : FirstVertexStays
+first-vertex-stays A pt closed ps qs h =
+    simplified-keeps pt (λ (rs : List A). take 1 rs ≡ take 1 ps) (λ k rs low high p. first-after pt k rs low high ∙ p) closed ps qs h refl
+
+pub simplified-no-longer : NoLonger
+simplified-no-longer A pt closed ps qs h =
+    simplified-keeps pt (λ (rs : List A). length rs ≤ length ps) (λ k rs low high p. let l = one-gone pt k rs high in omega arith) closed ps qs h (omega arith)

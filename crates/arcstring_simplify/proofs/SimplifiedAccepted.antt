@@ -9,12 +9,11 @@ use lib.ListN.{length, getD, take, drop, length-take}
 use lib.Seq.{split-at}
 use lib.Ieee.{Float}
 use Rattle.sphericalpoint.specs.declared.SphericalPoint.{SphericalPoint}
-use Rattle.arcstring.specs.Answer.{answered}
 use Rattle.arcstring.specs.Points.{itself, points, flat, noPoint}
-use Rattle.arcstring.specs.Check.{inRange, allInRange, storedCheck}
+use Rattle.arcstring.specs.Check.{inRange, allInRange}
 use Rattle.arcstring.proofs.Flat.{flat-points, flat-append, count-points}
 use Rattle.arcstring.proofs.Checks.{points-stored, stored-whole, stored-some}
-use Rattle.arcstring_simplify.specs.Simplify.{simplified}
+use Rattle.arcstring_simplify.specs.SimplifyLaws.{SimplifiedAccepted}
 use Rattle.arcstring_simplify.proofs.Simplified.{simplified-keeps, simplified-no-longer, first-vertex-stays}
 
 -- ---- coordinates in range, with a point less
@@ -47,13 +46,12 @@ range-after k ps h r =
 
 -- ---- the checks
 
-pub simplified-accepted : (v : List Float) (closed : Bool) (qs : List SphericalPoint) → storedCheck v ≡ 0
-    → simplified itself closed (points v) ≡ answered qs → storedCheck (flat qs) ≡ 0
+pub simplified-accepted : SimplifiedAccepted
 simplified-accepted v closed qs accepted h =
     let whole = stored-whole v accepted in
     let n : length (points v) ≡ length v / 3 = count-points v in
-    let long : length qs ≤ length (points v) = simplified-no-longer itself closed (points v) qs h in
-    let first : length (take 1 qs) ≡ length (take 1 (points v)) = ap length (first-vertex-stays itself closed (points v) qs h) in
+    let long : length qs ≤ length (points v) = simplified-no-longer SphericalPoint itself closed (points v) qs h in
+    let first : length (take 1 qs) ≡ length (take 1 (points v)) = ap length (first-vertex-stays SphericalPoint itself closed (points v) qs h) in
     let some : 1 ≤ length qs = omega (arith, stored-some v accepted, length-take 1 qs, length-take 1 (points v)) in
     let range : allInRange (flat qs) ≡ true =
     simplified-keeps itself (λ (rs : List SphericalPoint). allInRange (flat rs) ≡ true) (λ k rs low high r. range-after k rs high r) closed (points v) qs h

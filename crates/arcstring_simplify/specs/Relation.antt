@@ -7,7 +7,7 @@ use lib.Ieee.{Float}
 use Rattle.sphericalpoint.specs.declared.SphericalPoint.{SphericalPoint}
 use Rattle.arcstring.specs.Answer.{Answer, refused, answered, mapAnswer, andThen, pick}
 use Rattle.arcstring.specs.Points.{itself, ArcString, copied}
-use Rattle.arcstring_relation.specs.OnString.{alongString, stored}
+use Rattle.arcstring_along.specs.OnString.{alongString, stored}
 use Rattle.arcstring_relation.specs.Relation.{equalStrings, withinString, twoStrings}
 use Rattle.arcstring_simplify.specs.Simplify.{simplified}
 

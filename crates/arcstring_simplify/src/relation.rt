@@ -4,7 +4,7 @@ ghost use mathlib.Core.Path.{_≡_};
 ghost use Rattle.arcstring.specs.Points.{points};
 ghost use Rattle.arcstring.specs.Check.{storedCheck};
 ghost use Rattle.arcstring.specs.Point.{decidedAnswer};
-ghost use Rattle.arcstring_relation.specs.OnString.{stored};
+ghost use Rattle.arcstring_along.specs.OnString.{stored};
 ghost use Rattle.arcstring_simplify.specs.Relation.{equalsLonger, equalsSimplified, equalsString, overlapLegs, overlapsApart, sameSimplified};
 ghost use Rattle.arcstring_simplify.specs.Relation as Relation;
 use crate::simplify;
@@ -13,7 +13,7 @@ use arcstring::check::Decided;
 use arcstring::check::Refusal;
 use arcstring::vertex;
 use arcstring::walk::Written;
-use arcstring_relation::on_string;
+use arcstring_along::on_string;
 use arcstring_relation::relation;
 
 // A simplified copy of the shorter string, as it stands in `short` with the near list `short_near`, against the longer, and

@@ -13,9 +13,9 @@ use Rattle.arcstring.specs.Splice.{splice}
 use Rattle.arcstring.specs.Build.{builtString, builtNumbered}
 use Rattle.arcstring.proofs.BuildsWithout.{built-places}
 use Rattle.arcstring.proofs.Splices.{take-splice}
+use Rattle.arcstring_insert.proofs.Steps.{over-limit, at-most-limit}
 use Rattle.arcstring_split.specs.Pieces.{piece, firstPieces, sum, Stands}
 use Rattle.arcstring_split.specs.Split.{pointsIn, firstPoints, secondPoints, cutAt}
-use Rattle.arcstring_split.proofs.Steps.{over-limit, at-most-limit}
 use Rattle.arcstring_split.proofs.CutLists.{cutIn, cut-size, cut-held, cut-stands}
 
 -- no pieces need no room of their own

@@ -18,13 +18,14 @@ use Rattle.arcstring.specs.Build.{builtNumbered}
 use Rattle.arcstring.proofs.Flat.{length-points}
 use Rattle.arcstring.proofs.Numbered.{length-numbered}
 use Rattle.arcstring.proofs.Splices.{take-past-splice}
-use Rattle.arcstring_crossing.specs.Tally.{legCount}
-use Rattle.arcstring_split.specs.declared.split.Cut.{Cut}
-use Rattle.arcstring_split.specs.declared.split.Cut.the-variants as C
-use Rattle.arcstring_split.specs.Steps.{forPositions, forEach}
+use Rattle.arcstring_crossing.specs.Leg.{legCount}
+use Rattle.arcstring_insert.specs.Steps.{forPositions, forEach}
+use Rattle.arcstring_insert.proofs.Steps.{each-on, each-stops, each-end, vertices-next}
+use Rattle.arcstring_split_leg.specs.declared.split.Cut.{Cut}
+use Rattle.arcstring_split_leg.specs.declared.split.Cut.the-variants as C
+use Rattle.arcstring_split_leg.specs.Legs.{cutCount}
 use Rattle.arcstring_split.specs.Split.{cutAtLeg, cutPlace, cutString}
-use Rattle.arcstring_split.specs.Pieces.{firstPieces, heldPieces, cutCount, sum, Stands}
-use Rattle.arcstring_split.proofs.Steps.{each-on, each-stops, each-end, vertices-next}
+use Rattle.arcstring_split.specs.Pieces.{firstPieces, heldPieces, sum, Stands}
 use Rattle.arcstring_split.proofs.Sums.{sum-next}
 use Rattle.arcstring_split.proofs.CutWalks.{Walks, walk-step, place-longer, legStep}
 use Rattle.arcstring_split.proofs.CutLists.{numbered-part, vertices-in, vertex-count, first-length, all-points, place-string}

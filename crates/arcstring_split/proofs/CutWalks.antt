@@ -14,16 +14,17 @@ use Rattle.arcstring.specs.Points.{StringOf, numbered, placeOf, placesOf, point
 use Rattle.arcstring.specs.Build.{builtNumbered}
 use Rattle.arcstring.proofs.Flat.{length-points}
 use Rattle.arcstring.proofs.Numbered.{all-places}
-use Rattle.arcstring_crossing.specs.Tally.{legAt, legCount}
-use Rattle.arcstring_relation.specs.OnString.{alongLeg}
-use Rattle.arcstring_split.specs.declared.split.Cut.{Cut}
-use Rattle.arcstring_split.specs.declared.split.Cut.the-variants as C
-use Rattle.arcstring_split.specs.Steps.{forPositions, legFrom}
+use Rattle.arcstring_crossing.specs.Leg.{legAt, legCount}
+use Rattle.arcstring_along.specs.OnString.{alongLeg}
+use Rattle.arcstring_insert.specs.Steps.{forPositions, legFrom}
+use Rattle.arcstring_insert.proofs.Steps.{positions-on, positions-stop, positions-end}
+use Rattle.arcstring_insert.proofs.Limits.{within-limit}
+use Rattle.arcstring_insert.proofs.LegFrom.{leg-from}
+use Rattle.arcstring_split_leg.specs.declared.split.Cut.{Cut}
+use Rattle.arcstring_split_leg.specs.declared.split.Cut.the-variants as C
+use Rattle.arcstring_split_leg.specs.Legs.{cutCount}
 use Rattle.arcstring_split.specs.Split.{cutAt, cutAtLeg, cutPlace, noString}
-use Rattle.arcstring_split.specs.Pieces.{firstPieces, heldPieces, cutCount, Stands}
-use Rattle.arcstring_split.proofs.Steps.{positions-on, positions-stop, positions-end}
-use Rattle.arcstring_split.proofs.Limits.{within-limit}
-use Rattle.arcstring_split.proofs.LegFrom.{leg-from}
+use Rattle.arcstring_split.specs.Pieces.{firstPieces, heldPieces, Stands}
 use Rattle.arcstring_split.proofs.CutLists.{first-length}
 
 -- ---- no fewer pieces

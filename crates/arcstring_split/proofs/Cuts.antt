@@ -11,10 +11,10 @@ use Rattle.arcstring.specs.declared.vertex.Vertex.{Vertex}
 use Rattle.arcstring.specs.Points.{StringOf}
 use Rattle.arcstring.specs.Splice.{splice}
 use Rattle.arcstring.proofs.Splices.{take-past-splice}
+use Rattle.arcstring_insert.proofs.Shifts.{drop-take}
 use Rattle.arcstring_split.specs.Pieces.{piece, piecesOf, sum, allSome}
 use Rattle.arcstring_split.specs.Split.{pointsIn}
 use Rattle.arcstring_split.proofs.Sums.{sum-append, sum-split, some-append, some-cons, some-take, some-drop}
-use Rattle.arcstring_split.proofs.Shifts.{drop-take}
 use Rattle.arcstring_split.proofs.Pieces.{points-append, pieces-append, pieces-same, pieces-before, pieces-after, pieces-points}
 
 -- ---- two numbers in the place of number k

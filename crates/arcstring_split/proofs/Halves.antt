@@ -21,8 +21,8 @@ use Rattle.arcstring.proofs.Numbered.{numbered-append, numbered-take, numbered-
 use Rattle.arcstring.proofs.Splices.{spliced-next, splice-start, splice-front, set-splice}
 use Rattle.arcstring.proofs.Builds.{closed-vertices, closed-length, open-vertices, open-length, closed-flag}
 use Rattle.arcstring.proofs.BuildsWithout.{built-unnumbered, built-buoys}
+use Rattle.arcstring_insert.proofs.Shifts.{floats}
 use Rattle.arcstring_split.specs.Split.{firstPoints, secondPoints}
-use Rattle.arcstring_split.proofs.Shifts.{floats}
 
 -- ---- vertices in two lists
 

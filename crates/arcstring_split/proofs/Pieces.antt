@@ -13,9 +13,9 @@ use Rattle.arcstring.specs.Answer.{flagNumber}
 use Rattle.arcstring.specs.declared.vertex.Vertex.{Vertex}
 use Rattle.arcstring.specs.Points.{StringOf, flat, placeOf, placesOf, buoysOf}
 use Rattle.arcstring.proofs.Flat.{flat-append}
+use Rattle.arcstring_insert.proofs.Shifts.{drop-take}
 use Rattle.arcstring_split.specs.Pieces.{piece, piecesOf, sum, flagsOf}
 use Rattle.arcstring_split.specs.Split.{pointsIn, noString, pieceFloats, pieceBuoys, pieceCounts, pieceFlags}
-use Rattle.arcstring_split.proofs.Shifts.{drop-take}
 
 -- a flag that was written for a Bool reads as that Bool
 pub flag-read : (b : Bool) → not (eqb (flagNumber b) 0) ≡ b

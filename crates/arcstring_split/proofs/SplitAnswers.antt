@@ -19,12 +19,13 @@ use Rattle.arcstring.specs.Check.{roomCheck, roomsCheck}
 use Rattle.arcstring.proofs.Flat.{take-flat, flat-points, length-points}
 use Rattle.arcstring.proofs.Numbered.{map-take, all-places, all-buoys}
 use Rattle.arcstring.proofs.Splices.{splice-start}
-use Rattle.arcstring_split.specs.declared.split.Cut.{Cut}
-use Rattle.arcstring_split.specs.declared.split.Cut.the-variants as C
-use Rattle.arcstring_split.specs.SplitLeg.{unlessUncut, pieceCount, ofPieces}
+use Rattle.arcstring_split_leg.specs.declared.split.Cut.{Cut}
+use Rattle.arcstring_split_leg.specs.declared.split.Cut.the-variants as C
+use Rattle.arcstring_split_leg.specs.SplitLeg.{unlessUncut, pieceCount, ofPieces}
+use Rattle.arcstring_split_leg.specs.Legs.{cutCount}
+use Rattle.arcstring_split_leg.proofs.Uncut.{one-uncut, two-cut}
 use Rattle.arcstring_split.specs.Split.{pointsIn, pieceFloats, pieceBuoys, pieceCounts, pieceFlags, piecesInto}
-use Rattle.arcstring_split.specs.Pieces.{firstPieces, heldPieces, cutCount, sum, flagsOf, handedOver, Stands}
-use Rattle.arcstring_split.proofs.Uncut.{one-uncut, two-cut}
+use Rattle.arcstring_split.specs.Pieces.{firstPieces, heldPieces, sum, flagsOf, handedOver, Stands}
 use Rattle.arcstring_split.proofs.Pieces.{pieces-points, pieces-counts, pieces-flags, pieces-floats, pieces-buoys}
 use Rattle.arcstring_split.proofs.CutLists.{first-length, same-length, enough}
 use Rattle.arcstring_split.proofs.CutPlaces.{counted-stand}

@@ -23,9 +23,9 @@ use Rattle.arcstring.proofs.Checks.{stored-whole, stored-some, string-stored, a
 use Rattle.arcstring.proofs.Flat.{take-points}
 use Rattle.arcstring.proofs.Numbered.{numbered-take}
 use Rattle.arcstring.proofs.WithoutBuoys.{lent-places}
-use Rattle.arcstring_split.specs.declared.split.Cut.{Cut}
-use Rattle.arcstring_split.specs.Steps.{forEach}
-use Rattle.arcstring_split.specs.SplitLeg.{unlessUncut}
+use Rattle.arcstring_insert.specs.Steps.{forEach}
+use Rattle.arcstring_split_leg.specs.declared.split.Cut.{Cut}
+use Rattle.arcstring_split_leg.specs.SplitLeg.{unlessUncut}
 use Rattle.arcstring_split.specs.Split.{cutString, cutAll, piecesInto, numberedCopy, splitInto, splitString}
 use Rattle.arcstring_split.specs.Pieces.{piece, piecesOf, firstPieces, heldPieces, handedOver, sum, allSome, Stands}
 use Rattle.arcstring_split.proofs.Sums.{some-cons}

@@ -13,12 +13,12 @@ use Rattle.arcstring.specs.Build.{builtString, builtNumbered}
 use Rattle.arcstring.proofs.Answers.{where-passed}
 use Rattle.arcstring.proofs.BuildsWithout.{built-unnumbered, built-buoys}
 use Rattle.arcstring.proofs.WithoutBuoys.{buoyOf, lent-places, string-alike, points-alike}
-use Rattle.arcstring_relation.specs.OnString.{stored}
-use Rattle.arcstring_split.specs.SplitLeg.{unlessUncut}
+use Rattle.arcstring_along.specs.OnString.{stored}
+use Rattle.arcstring_insert.proofs.InsertsWithout.{points-places}
+use Rattle.arcstring_split_leg.specs.SplitLeg.{unlessUncut}
 use Rattle.arcstring_split.specs.Split.{firstPoints, secondPoints, cutAll, piecesInto, splitInto, numberedCopy, splitString}
 use Rattle.arcstring_split.specs.BuoyLaws.{SplitWithout, CutBuoys, eachPiece}
 use Rattle.arcstring_split.proofs.Natural.{map-cut-all, map-split-into, map-first, map-second}
-use Rattle.arcstring_split.proofs.InsertsWithout.{points-places}
 
 -- what is answered to an accepted string and accepted points is all that matters
 split-where : {A : Type 0} (v : List Float) (bs : List ℕ) (extra : List Float) (es : List ℕ) (room buoyRoom countsRoom flagsRoom : ℕ)

@@ -1,30 +1,20 @@
--- What is claimed of the numbers that vertices carry, for inserting and splitting. Definitions only. The proofs are in `proofs/InsertsWithout.antt` and
+-- What is claimed of the numbers that vertices carry, for splitting. Definitions only. The proofs are `split-without` and `cut-buoys` of
 -- `proofs/SplitsWithout.antt`.
 use mathlib.Core.Path.{_≡_}
 use mathlib.Core.Bool.{Bool}
-use mathlib.Core.List.{List, [], _++_, map}
+use mathlib.Core.List.{List, [], map}
 use mathlib.Core.Option.{Option, none, some}
-use Prim.Native.Nat.{ℕ, _/_}
+use Prim.Native.Nat.{ℕ}
 use lib.ListN.{length, take}
 use lib.Ieee.{Float}
-use Rattle.arcstring.specs.Answer.{unlessRefused, mapAnswer}
+use Rattle.arcstring.specs.Answer.{mapAnswer}
 use Rattle.arcstring.specs.declared.vertex.Vertex.{Vertex}
-use Rattle.arcstring.specs.Points.{buoysOf, placesOf, itself, unnumbered, copied, points, pointAt}
-use Rattle.arcstring.specs.Positions.{positionsFrom, vertexAt}
-use Rattle.arcstring.specs.Check.{pointsCheck, lent}
-use Rattle.arcstring.specs.Walk.{withoutBuoys}
+use Rattle.arcstring.specs.Points.{buoysOf, placesOf, itself, unnumbered, copied, points}
 use Rattle.arcstring.specs.Build.{builtString, builtNumbered}
-use Rattle.arcstring_relation.specs.OnString.{stored}
-use Rattle.arcstring_split.specs.Insert.{inserted, insertVertices}
+use Rattle.arcstring_along.specs.OnString.{stored}
 use Rattle.arcstring_split.specs.Split.{firstPoints, secondPoints, cutAll, splitInto, splitString}
 
 -- ---- the numbers taken off: the call over points, after the same checks
-
-abbrev pub InsertWithout : Type 0
-InsertWithout =
-    (v : List Float) (buoys : List ℕ) (closed : Bool) (extra : List Float) (extraBuoys : List ℕ) (room buoyRoom : ℕ)
-    → withoutBuoys (insertVertices v buoys closed extra extraBuoys room buoyRoom)
-    ≡ lent v buoys room buoyRoom (unlessRefused (pointsCheck extra extraBuoys) (inserted itself closed (points extra) (points v)))
 
 -- of each piece; uncut stays
 abbrev pub eachPiece : {A B : Type 0} → (A → B) → Option (List A) → Option (List B)
@@ -39,17 +29,6 @@ SplitWithout =
     ≡ splitInto v buoys extra extraBuoys room buoyRoom countsRoom flagsRoom (cutAll itself builtString (points extra) (copied (stored v [] closed)))
 
 -- ---- the numbers written
-
--- The vertices and numbers written are those at positions that the points alone give, in the vertices and the points put in one after another: a point put
--- in has a position past the vertices, and brings the number there.
-abbrev pub InsertKeeps : Type 0
-InsertKeeps =
-    (v : List Float) (buoys : List ℕ) (closed : Bool) (extra : List Float) (extraBuoys : List ℕ) (room buoyRoom : ℕ)
-    → insertVertices v buoys closed extra extraBuoys room buoyRoom
-    ≡ lent v buoys room buoyRoom
-    (unlessRefused (pointsCheck extra extraBuoys)
-    (mapAnswer (map (vertexAt (v ++ extra) (buoys ++ extraBuoys)))
-    (inserted (pointAt (v ++ extra)) closed (positionsFrom (length v / 3) (length extra / 3)) (positionsFrom 0 (length v / 3)))))
 
 -- The numbers of the two pieces of a cut: the point's own number stands at the end of the first list and at the start of the second, and a piece that closes
 -- drops the last of its list.

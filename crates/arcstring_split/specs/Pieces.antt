@@ -1,36 +1,19 @@
--- Legs and pieces as they stand at the start of a list that is worked on: for the contracts of inner functions. Definitions only.
+-- Pieces as they stand at the start of lists that are worked on: for the contracts of inner functions. Definitions only.
 use mathlib.Core.Path.{_≡_}
 use mathlib.Core.Bool.{Bool, true, not, _&&_}
 use mathlib.Core.List.{List, [], _∷_, map}
 use mathlib.Core.Option.{Option}
-use Prim.Native.Nat.{ℕ, _+_, _*_, _≤_}
+use Prim.Native.Nat.{ℕ, _+_, _≤_}
 use lib.ListN.{length, take, drop}
 use lib.Dec.{eqb}
 use lib.Ieee.{Float}
-use Rattle.sphericalpoint.specs.declared.SphericalPoint.{SphericalPoint}
 use Rattle.arcstring.specs.Answer.{Answer, refused, answered, andThen, flagNumber, refusalNumber}
 use Rattle.arcstring.specs.declared.vertex.Vertex.{Vertex}
 use Rattle.arcstring.specs.Points.{StringOf, numbered, placesOf, points}
-use Rattle.arcstring.specs.Work.{firstOfList}
-use Rattle.arcstring_crossing.specs.Crossing.{Leg, leg}
-use Rattle.arcstring_split.specs.declared.split.Cut.{Cut}
-use Rattle.arcstring_split.specs.declared.split.Cut.the-variants as C
-use Rattle.arcstring_split.specs.SplitLeg.{unlessUncut}
+use Rattle.arcstring_split_leg.specs.declared.split.Cut.{Cut}
+use Rattle.arcstring_split_leg.specs.declared.split.Cut.the-variants as C
+use Rattle.arcstring_split_leg.specs.SplitLeg.{unlessUncut}
 use Rattle.arcstring_split.specs.Split.{piecesInto}
-
--- points taken two by two, as the legs of a split leg stand
-unfoldable pub legsOf : List SphericalPoint → List Leg
-legsOf [] = []
-legsOf (p ∷ []) = []
-legsOf (p ∷ q ∷ ps) = leg p q ∷ legsOf ps
-
-abbrev pub heldLegs : Cut → List Float → Answer (List Leg)
-heldLegs (C.Pieces m) v = answered (legsOf (firstOfList (2 * m) v))
-heldLegs (C.Refused e) v = refused (refusalNumber e)
-
-abbrev pub cutCount : Cut → ℕ
-cutCount (C.Pieces m) = m
-cutCount (C.Refused e) = 0
 
 -- a built piece: its near list is its vertices
 abbrev pub piece : List Vertex → Bool → StringOf Vertex

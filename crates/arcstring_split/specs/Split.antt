@@ -12,10 +12,10 @@ use Rattle.arcstring.specs.declared.vertex.Vertex.{Vertex}
 use Rattle.arcstring.specs.Points.{numbered, placeOf, placesOf, buoysOf, StringOf, points, flat}
 use Rattle.arcstring.specs.Check.{stringCheck, pointsCheck, roomCheck, roomsCheck}
 use Rattle.arcstring.specs.Build.{builtNumbered}
-use Rattle.arcstring_crossing.specs.Tally.{legCount}
-use Rattle.arcstring_relation.specs.OnString.{alongLeg}
-use Rattle.arcstring_split.specs.Steps.{forEach, forPositions, legFrom, limited}
-use Rattle.arcstring_split.specs.SplitLeg.{unlessUncut}
+use Rattle.arcstring_crossing.specs.Leg.{legCount}
+use Rattle.arcstring_along.specs.OnString.{alongLeg}
+use Rattle.arcstring_insert.specs.Steps.{forEach, forPositions, legFrom, limited}
+use Rattle.arcstring_split_leg.specs.SplitLeg.{unlessUncut}
 
 -- ---- one cut
 

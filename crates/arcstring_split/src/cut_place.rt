@@ -8,18 +8,19 @@ ghost use Rattle.arcstring.specs.Answer.{flagNumber};
 ghost use Rattle.arcstring.specs.Points.{numbered, placeOf, points};
 ghost use Rattle.arcstring.specs.Splice.{splice};
 ghost use Rattle.arcstring.specs.Build.{builtNumbered};
-ghost use Rattle.arcstring_split.specs.Steps.{forEach, forPositions};
-ghost use Rattle.arcstring_split.specs.Pieces.{sum, firstPieces, heldPieces, cutCount, Stands};
+ghost use Rattle.arcstring_insert.specs.Steps.{forEach, forPositions};
+ghost use Rattle.arcstring_split_leg.specs.Legs.{cutCount};
+ghost use Rattle.arcstring_split.specs.Pieces.{sum, firstPieces, heldPieces, Stands};
 ghost use Rattle.arcstring_split.specs.Split.{firstPoints, secondPoints, cutAt, cutAtLeg, cutString};
 ghost use Rattle.arcstring_split.specs.Split as Split;
 use crate::piece;
 use crate::piece::Piece;
-use crate::split::Cut;
 use arcstring::check::Refusal;
 use arcstring::vertex;
 use arcstring::vertex::Vertex;
-use arcstring_crossing::tally;
-use arcstring_relation::on_string;
+use arcstring_along::on_string;
+use arcstring_crossing::leg;
+use arcstring_split_leg::split::Cut;
 
 // The sum of the first m numbers.
 pub(crate) fn sum_of(list: &[usize], m: usize) -> usize
@@ -227,7 +228,7 @@ fn cut_place(
     vertex::copy_run(work, at, n, copy, 0);
     vertex::copy_buoys(buoys, at, n, copy_buoys, 0);
     let end = 3 * n;
-    let legs = tally::leg_count(n, flags[k] != 0);
+    let legs = leg::leg_count(n, flags[k] != 0);
     cut_legs_of(
         &copy[..end],
         &copy_buoys[..n],

@@ -5,7 +5,7 @@ use Rattle.arcstring.specs.Points.{points}
 use Rattle.arcstring.proofs.WithoutBuoys.{lent-alike, back-without, restart-without}
 use Rattle.arcstring.proofs.BuildsWithout.{into-alike, build-without, flagged-without}
 use Rattle.arcstring_simplify.proofs.SimplifiesWithout.{simplify-without}
-use Rattle.arcstring_split.proofs.InsertsWithout.{insert-alike}
+use Rattle.arcstring_insert.proofs.InsertsWithout.{insert-alike}
 use Rattle.arcstring_split.proofs.SplitsWithout.{split-alike}
 use Rattle.buoys.specs.GeometryAlone.{GeometryAlone}
 

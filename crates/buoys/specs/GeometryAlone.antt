@@ -11,7 +11,7 @@ use Rattle.arcstring.specs.Points.{unnumbered}
 use Rattle.arcstring.specs.Build.{build, buildFlagged}
 use Rattle.arcstring.specs.Walk.{walkBack, restart, withoutBuoys}
 use Rattle.arcstring_simplify.specs.Simplify.{simplify}
-use Rattle.arcstring_split.specs.Insert.{insertVertices}
+use Rattle.arcstring_insert.specs.Insert.{insertVertices}
 use Rattle.arcstring_split.specs.Split.{splitString}
 use Rattle.arcstring_split.specs.BuoyLaws.{eachPiece}
 

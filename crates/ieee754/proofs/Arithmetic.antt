@@ -8,6 +8,7 @@ use mathlib.Core.Bool.{Bool, true, false, not, cond, Bool·not-not}
 use lib.Dec.{T, ltb, eqb, ltb→lt, nltb→le}
 use lib.Ieee.{Float, nan, inf, fin, Format, up, down, unlike, round, neg, sum, add, mul}
 use Rattle.ieee754.specs.Size.{abs}
+use Rattle.ieee754.specs.ValueLaws.{AddComm, MulComm, NegNeg, MulNegLeft, MulNegRight}
 use Rattle.ieee754.proofs.Rounding.{round-neg}
 
 -- ---- signs
@@ -23,7 +24,7 @@ unlike-not true false = refl
 unlike-not false true = refl
 unlike-not false false = refl
 
-pub neg-neg : (x : Float) → neg (neg x) ≡ x
+pub neg-neg : NegNeg
 unfolding neg
 neg-neg nan = refl
 neg-neg (inf s) = ap inf (Bool·not-not s)
@@ -59,7 +60,7 @@ sum-comm f false a false b c = ap (λ (n : ℕ). round f false n c) (+-comm a b)
 sum-comm f true a false b c = cross-signs f a b c (ltb a b) (ltb b a) (not-both a b) (same-if-neither a b)
 sum-comm f false a true b c = sym (cross-signs f b a c (ltb b a) (ltb a b) (not-both b a) (same-if-neither b a))
 
-pub add-comm : (f : Format) (x y : Float) → add f x y ≡ add f y x
+pub add-comm : AddComm
 unfolding add
 add-comm f nan nan = refl
 add-comm f nan (inf t) = refl
@@ -77,7 +78,7 @@ add-comm f (fin s m e) (fin t n d) =
     ∙ ap (λ (c : ℕ). sum f t (n * up d * down e) s (m * up e * down d) c) (*-comm (down e) (down d))
 
 -- ---- the product
-pub mul-comm : (f : Format) (x y : Float) → mul f x y ≡ mul f y x
+pub mul-comm : MulComm
 unfolding mul
 mul-comm f nan nan = refl
 mul-comm f nan (inf t) = refl
@@ -97,7 +98,7 @@ unfolding neg
 neg-cond-inf true s = refl
 neg-cond-inf false s = refl
 
-pub mul-neg-left : (f : Format) (x y : Float) → mul f (neg x) y ≡ neg (mul f x y)
+pub mul-neg-left : MulNegLeft
 unfolding mul neg
 mul-neg-left f nan y = refl
 mul-neg-left f (inf s) nan = refl
@@ -111,5 +112,5 @@ mul-neg-left f (fin s m e) (fin t n d) =
     ap (λ (b : Bool). round f b (m * up e * (n * up d)) (down e * down d)) (unlike-not s t)
     ∙ sym (round-neg f (unlike s t) (m * up e * (n * up d)) (down e * down d))
 
-pub mul-neg-right : (f : Format) (x y : Float) → mul f x (neg y) ≡ neg (mul f x y)
+pub mul-neg-right : MulNegRight
 mul-neg-right f x y = mul-comm f x (neg y) ∙ mul-neg-left f y x ∙ ap neg (mul-comm f y x)

@@ -16,6 +16,7 @@ use lib.Ieee.Scale.{finite}
 use borrow.Author.Tests.{lt-ltb, ltb-false, eq-eqb}
 use Rattle.ieee754.specs.Size.{abs}
 use Rattle.ieee754.specs.Bound.{AtMost}
+use Rattle.ieee754.specs.BoundLaws.{MulAtMost, AddAtMostMax, SubAtMostMax, AddAtMost, SubAtMost, BetweenAtMost, AtMostBetween}
 use Rattle.ieee754.proofs.Rounding.{round-neg}
 
 -- ---- the bound itself
@@ -81,7 +82,7 @@ le-at-most k (inf s) h = unfold le in h
 le-at-most k (fin s m e) h = under-power k m e (fin false 1 (pos k)) (power-value k) h
 
 -- a float from -1 to 1
-pub between-at-most : (x : Float) → T (le (fin true 1 (pos 0)) x) → T (le x (fin false 1 (pos 0))) → AtMost 0 x
+pub between-at-most : BetweenAtMost
 unfolding le
 between-at-most nan g h = h
 between-at-most (inf true) g h = g
@@ -100,7 +101,7 @@ no-more a b true e h = tt
 no-more a b false e h = rw (eq-eqb a b (omega (arith, ltb-false b a e))) tt
 
 -- and back
-pub at-most-between : (x : Float) → AtMost 0 x → T (le (fin true 1 (pos 0)) x) × T (le x (fin false 1 (pos 0)))
+pub at-most-between : AtMostBetween
 unfolding le abs
 at-most-between nan h = absurd h
 at-most-between (inf s) h = absurd h
@@ -165,7 +166,7 @@ round-at-most f true num den k D r h =
     subst (λ (x : Float). AtMost k x) (round-neg f false num den) (neg-at-most k (round f false num den) (unsigned-at-most f num den k D r h))
 
 -- ---- the product
-pub mul-at-most : (f : Format) (a b : ℕ) (x y : Float) → a + b ≤ emax f → AtMost a x → AtMost b y → AtMost (a + b) (mul f x y)
+pub mul-at-most : MulAtMost
 unfolding mul
 mul-at-most f a b nan y r h k = absurd h
 mul-at-most f a b (inf s) y r h k = absurd h
@@ -204,15 +205,15 @@ both-at-most f k (fin s m e) (fin t n d) r h g =
     (le-trans (mul-le-mul-right (down d) h) (le-of-eq (mul-assoc (2 ^ k) (down e) (down d))))
     (le-trans (mul-le-mul-right (down e) g) (le-of-eq (mul-assoc (2 ^ k) (down d) (down e) ∙ ap (λ (z : ℕ). 2 ^ k * z) (mul-comm (down d) (down e)))))
 
-pub add-at-most : (f : Format) (a b k : ℕ) (x y : Float) → a ≤ k → b ≤ k → suc k ≤ emax f → AtMost a x → AtMost b y → AtMost (suc k) (add f x y)
+pub add-at-most : AddAtMost
 add-at-most f a b k x y p q r h g = both-at-most f k x y r (at-most-mono a k x p h) (at-most-mono b k y q g)
 
-pub add-at-most-max : (f : Format) (a b : ℕ) (x y : Float) → suc (max a b) ≤ emax f → AtMost a x → AtMost b y → AtMost (suc (max a b)) (add f x y)
+pub add-at-most-max : AddAtMostMax
 add-at-most-max f a b x y r h g = add-at-most f a b (max a b) x y (le-max-left a b) (le-max-right a b) r h g
 
-pub sub-at-most : (f : Format) (a b k : ℕ) (x y : Float) → a ≤ k → b ≤ k → suc k ≤ emax f → AtMost a x → AtMost b y → AtMost (suc k) (sub f x y)
+pub sub-at-most : SubAtMost
 unfolding sub
 sub-at-most f a b k x y p q r h g = add-at-most f a b k x (neg y) p q r h (neg-at-most b y g)
 
-pub sub-at-most-max : (f : Format) (a b : ℕ) (x y : Float) → suc (max a b) ≤ emax f → AtMost a x → AtMost b y → AtMost (suc (max a b)) (sub f x y)
+pub sub-at-most-max : SubAtMostMax
 sub-at-most-max f a b x y r h g = sub-at-most f a b (max a b) x y (le-max-left a b) (le-max-right a b) r h g

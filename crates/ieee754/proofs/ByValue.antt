@@ -13,6 +13,7 @@ use lib.Ieee.Fits.{down-pos}
 use lib.Ieee.Scale.{round-same}
 use Rattle.ieee754.specs.Value.{Value, vnan, vinf, vzero, vnum, value, float, isZero, Alike}
 use Rattle.ieee754.specs.Size.{abs}
+use Rattle.ieee754.specs.ValueLaws.{ValueAlike, AlikeValue, AddValue, SubValue, MulValue, NegValue, AbsValue, NegAdd, NegSub, SubSwap}
 use Rattle.ieee754.proofs.Rounding.{round-neg, round-zero}
 use Rattle.ieee754.proofs.Arithmetic.{neg-neg, add-comm, mul-comm, same-if-neither}
 
@@ -29,14 +30,14 @@ zero-value (inf s) t = absurd t
 zero-value (fin s zero e) t = refl
 zero-value (fin s (suc n) e) t = absurd t
 
-pub alike-value : (x y : Float) → Alike x y → value x ≡ value y
+pub alike-value : AlikeValue
 alike-value x y (inl e) = ap value e
 alike-value x y (inr z) = zero-value x (z .0) ∙ sym (zero-value y (z .1))
 
 never : {X : Type 0} → _≡_ {A = ℕ} 0 1 → X
 never e = absurd (let z : _≡_ {A = ℕ} 0 1 = e in omega arith)
 
-pub value-alike : (x y : Float) → value x ≡ value y → Alike x y
+pub value-alike : ValueAlike
 value-alike nan nan p = inl refl
 value-alike nan (inf t) p = never (cc)
 value-alike nan (fin t zero d) p = never (cc)
@@ -139,19 +140,19 @@ abs-float (fin s zero e) = refl
 abs-float (fin s (suc m) e) = refl
 
 -- ---- operands of the same values give results of the same value
-pub add-value : (f : Format) (x x' y y' : Float) → value x ≡ value x' → value y ≡ value y' → value (add f x y) ≡ value (add f x' y')
+pub add-value : AddValue
 add-value f x x' y y' p q = add-float f x y ∙ ap₂ (λ (v w : Value). value (add f (float v) (float w))) p q ∙ sym (add-float f x' y')
 
-pub mul-value : (f : Format) (x x' y y' : Float) → value x ≡ value x' → value y ≡ value y' → value (mul f x y) ≡ value (mul f x' y')
+pub mul-value : MulValue
 mul-value f x x' y y' p q = mul-float f x y ∙ ap₂ (λ (v w : Value). value (mul f (float v) (float w))) p q ∙ sym (mul-float f x' y')
 
-pub neg-value : (x x' : Float) → value x ≡ value x' → value (neg x) ≡ value (neg x')
+pub neg-value : NegValue
 neg-value x x' p = neg-float x ∙ ap (λ (v : Value). value (neg (float v))) p ∙ sym (neg-float x')
 
-pub abs-value : (x x' : Float) → value x ≡ value x' → value (abs x) ≡ value (abs x')
+pub abs-value : AbsValue
 abs-value x x' p = abs-float x ∙ ap (λ (v : Value). value (abs (float v))) p ∙ sym (abs-float x')
 
-pub sub-value : (f : Format) (x x' y y' : Float) → value x ≡ value x' → value y ≡ value y' → value (sub f x y) ≡ value (sub f x' y')
+pub sub-value : SubValue
 unfolding sub
 sub-value f x x' y y' p q = add-value f x x' (neg y) (neg y') p (neg-value y y' q)
 
@@ -177,7 +178,7 @@ neg-sum f false a false b c = ap value (round-neg f false (a + b) c)
 neg-sum f true a false b c = neg-mixed f true a b c (ltb a b) (ltb b a) (same-if-neither a b)
 neg-sum f false a true b c = neg-mixed f false a b c (ltb a b) (ltb b a) (same-if-neither a b)
 
-pub neg-add : (f : Format) (x y : Float) → value (neg (add f x y)) ≡ value (add f (neg x) (neg y))
+pub neg-add : NegAdd
 unfolding add neg
 neg-add f nan y = refl
 neg-add f (inf s) nan = refl
@@ -190,12 +191,12 @@ neg-add f (fin s m e) nan = refl
 neg-add f (fin s m e) (inf t) = refl
 neg-add f (fin s m e) (fin t n d) = neg-sum f s (m * up e * down d) t (n * up d * down e) (down e * down d)
 
-pub neg-sub : (f : Format) (x y : Float) → value (neg (sub f x y)) ≡ value (sub f (neg x) (neg y))
+pub neg-sub : NegSub
 unfolding sub
 neg-sub f x y = neg-add f x (neg y)
 
 -- x - y is -(y - x)
-pub sub-swap : (f : Format) (x y : Float) → value (sub f x y) ≡ value (neg (sub f y x))
+pub sub-swap : SubSwap
 unfolding sub
 sub-swap f x y =
     ap value (add-comm f x (neg y))

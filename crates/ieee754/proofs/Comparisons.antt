@@ -11,6 +11,7 @@ use lib.Ieee.{Float, nan, inf, fin, up, down, below, level, neg, lt, eq, le, ne}
 use lib.Ieee.Fits.{down-pos, and-i, and-l, and-r, eq→eqb}
 use lib.Ieee.Positive.{first-pos}
 use Rattle.ieee754.specs.Value.{Value, value, float}
+use Rattle.ieee754.specs.ValueLaws.{LtValue, EqValue, LeValue, NeValue}
 use Rattle.ieee754.proofs.ByValue.{zero-times}
 
 abbrev pub zeroFloat : Float
@@ -70,7 +71,7 @@ lt-float-r (inf t) (fin s zero e) = unfold lt in refl
 lt-float-r (fin t n d) (fin s zero e) = lt-zero-r s e t n d ∙ sym (lt-zero-r false (pos 0) t n d)
 lt-float-r x (fin s (suc m) e) = refl
 
-pub lt-value : (x x' y y' : Float) → value x ≡ value x' → value y ≡ value y' → lt x y ≡ lt x' y'
+pub lt-value : LtValue
 lt-value x x' y y' p q =
     lt-float-l x y
     ∙ lt-float-r (float (value x)) y
@@ -145,14 +146,14 @@ eq-float-l (fin s (suc m) e) y = refl
 eq-value-l : (x x' y : Float) → value x ≡ value x' → eq x y ≡ eq x' y
 eq-value-l x x' y p = eq-float-l x y ∙ ap (λ (v : Value). eq (float v) y) p ∙ sym (eq-float-l x' y)
 
-pub eq-value : (x x' y y' : Float) → value x ≡ value x' → value y ≡ value y' → eq x y ≡ eq x' y'
+pub eq-value : EqValue
 eq-value x x' y y' p q = eq-value-l x x' y p ∙ eq-comm x' y ∙ eq-value-l y y' x' q ∙ eq-comm y' x'
 
-pub le-value : (x x' y y' : Float) → value x ≡ value x' → value y ≡ value y' → le x y ≡ le x' y'
+pub le-value : LeValue
 unfolding le
 le-value x x' y y' p q = ap₂ (λ (a b : Bool). a || b) (lt-value x x' y y' p q) (eq-value x x' y y' p q)
 
-pub ne-value : (x x' y y' : Float) → value x ≡ value x' → value y ≡ value y' → ne x y ≡ ne x' y'
+pub ne-value : NeValue
 unfolding ne
 ne-value x x' y y' p q = ap not (eq-value x x' y y' p q)
 

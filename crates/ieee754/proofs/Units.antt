@@ -3,12 +3,12 @@
 use mathlib.Core.Path.{_≡_, refl, sym, ap, _∙_, subst}
 use mathlib.Core.Bool.{Bool, true, false, not, _&&_}
 use Prim.Native.Nat.{ℕ, zero, suc, _+_, _-_, _*_, _/_, _%_, _^_, _≤_, _<_}
-use native.Mathlib.Nat.{le-of-eq, lt-of-lt-of-le, lt-of-le-of-lt, lt-irrefl, lt-of-not-le, zero-lt-suc, zero-mul, zero-div, mul-one, mul-assoc, mul-comm}
+use native.Mathlib.Nat.{le-of-eq, lt-of-lt-of-le, lt-of-le-of-lt, lt-irrefl, lt-of-not-le, zero-mul, zero-div, mul-one, mul-assoc, mul-comm}
 use native.Mathlib.Nat.{mul-right-comm, mul-pos, mul-le-mul-right, mul-div-cancel, mul-lt-mul-of-pos-right, div-lt-iff-lt-mul}
 use native.Mathlib.Decide.{decLe}
 use native.Mathlib.Omega.{arith}
 use lib.IntN.{ℤ, pos, negsuc}
-use lib.Dec.{T, leb, eqb, ltb, leb→le, ltb→lt, lt→ltb}
+use lib.Dec.{T, leb, eqb, ltb, leb→le, ltb→lt}
 use lib.Pow.{pow-add, pow-pos, pow-lt}
 use lib.Ieee.{Float, nan, inf, fin, Format, prec, emax, low, hid, up, down, size, neg, fits, ofBits, toBits}
 use lib.Ieee.Digits.{back}
@@ -139,16 +139,6 @@ positive-units f (fin true n d) F p = absurd p
 positive-units f (fin false n d) F p =
     first-pos (unitsIn f (fin false n d)) (down d)
     (subst (λ (z : ℕ). 0 < z) (exact-units f false n d F) (mul-pos (mul-pos (ltb→lt 0 n p) (up-pos d)) (pow-pos (low f))))
-
-none : (n : ℕ) → n ≡ 0 → 0 < n → ⊥
-none n e h = omega arith
-
-pub positive-of-units : (f : Format) (x : Float) → T (notNegative x) → 0 < unitsIn f x → T (positive x)
-positive-of-units f nan p h = absurd p
-positive-of-units f (inf s) p h = absurd p
-positive-of-units f (fin true m e) p h = absurd p
-positive-of-units f (fin false zero e) p h = absurd (none (unitsIn f (fin false 0 e)) (zero-units f false e) h)
-positive-of-units f (fin false (suc m) e) p h = lt→ltb 0 (suc m) (zero-lt-suc m)
 
 -- ---- from the size to the pattern, so two floats from 0 up of one size are one
 

@@ -16,7 +16,7 @@ use Rattle.arcstring.specs.Points.{point}
 use Rattle.arcstring_crossing.specs.Crossing.{normal, meeting, sideFrom, sideTo, sideValues, grazes, isAbove, isBelow, signNegative, signPositive, someSide, everySide, atEnd, keptOrDropped, grazingOutcome, endOrClean, classAt, pairOf, legCheck, arcsCrossing}
 use Rattle.arcstring_simplify.specs.Simplify.{thirdPosition, unnecessary, unnecessaryFrom, unnecessaryPositions, removeAt, removeAll, isSimple, rounds, simplified, simplify}
 use Rattle.known_answers.specs.Twelve.{crossing, coplanar, building, simplifying, root, nought, unit, half, pointX, pointY, buoyed}
-use Rattle.known_answers.specs.Twelve.{crossings, coplanars, buildings, simplifyings, roots, twelve, answers}
+use Rattle.known_answers.specs.Twelve.{crossings, coplanars, buildings, simplifyings, roots, twelve, TwelveKnownAnswers}
 
 known-crossings : crossings
     ≡ crossing (answered (record { class = 1; point = some (point unit nought nought); kept = true }))
@@ -49,6 +49,6 @@ unfolding sqrtOf
 known-roots = refl
 
 -- the whole list at once
-pub twelve-known-answers : twelve ≡ answers
+pub twelve-known-answers : TwelveKnownAnswers
 unfolding twelve
 twelve-known-answers = λ i. known-crossings i ++ (known-coplanars i ++ (known-buildings i ++ (known-simplifyings i ++ known-roots i)))

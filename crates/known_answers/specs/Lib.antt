@@ -1,1 +1,2 @@
+-- Document 01's twelve known answers, and what is claimed of them.
 pub mod Twelve

@@ -1,5 +1,6 @@
 -- Document 01's twelve known answers: what the definitions give, and what the document says, as two lists. X, Y and Z are the axis unit points, M is
--- (0.5, 0.5, 0). Strings carry the numbers 7, 8, 9. Definitions only.
+-- (0.5, 0.5, 0). Strings carry the numbers 7, 8, 9. Definitions only. The proof is `twelve-known-answers` of `proofs/TwelveAnswers.antt`.
+use mathlib.Core.Path.{_≡_}
 use mathlib.Core.Bool.{Bool, true, false}
 use mathlib.Core.List.{List, [], _∷_, _++_}
 use mathlib.Core.Option.{none, some}
@@ -127,3 +128,9 @@ answers =
     ∷ root half
     ∷ root unit
     ∷ []
+
+-- ---- what is claimed
+
+-- The definitions give the document's answers.
+abbrev pub TwelveKnownAnswers : Type 0
+TwelveKnownAnswers = twelve ≡ answers

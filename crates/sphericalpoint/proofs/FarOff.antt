@@ -146,7 +146,7 @@ far-off y (fin s zero e) F h k g = unfold sqrtOf in Sizes.no (sym g ∙ zero-bel
 far-off y (fin true (suc m) e) F h k g = unfold sqrtOf in by-nan (abs y)
 far-off y (fin false (suc m) e) F h k g =
     let x = fin false (suc m) e in
-    let root = sqrt-nearest x F (lt→ltb 0 (suc m) (zero-lt-suc m)) in
+    let root = sqrt-nearest x F tt in
     let square = le→cross x sixteen (lt→ltb 0 (suc m) (zero-lt-suc m)) tt (subst T (sym k) tt) in
     by-root y (sqrtOf x) (root .held) (root .from-zero)
     (root-short x (sqrtOf x) root

@@ -1,6 +1,6 @@
 -- The tolerances and the number 1 as the code has them, by their bits, are those of the definitions. Assumes nothing.
 use mathlib.Core.Path.{_≡_, refl}
-use lib.Ieee.{Float, binary64, ofBits, round}
+use lib.Ieee.{binary64, ofBits, round}
 use Rattle.sphericalpoint.specs.Vector.{equalityTolerance, coplanarTolerance, unitTolerance}
 use Rattle.sphericalpoint.specs.Point.{one}
 

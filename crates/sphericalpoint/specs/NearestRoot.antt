@@ -1,4 +1,4 @@
--- What it is to be the `f64` nearest to √x, for a finite x above zero, with no algorithm named. Definitions only.
+-- What it is to be the `f64` nearest to √x, for a finite x from 0 up, with no algorithm named. Definitions only.
 use Prim.Native.Nat.{ℕ, _+_, _*_, _^_, _≤_, _<_}
 use lib.Dec.{T}
 use lib.Ieee.{Float, binary64, fits}

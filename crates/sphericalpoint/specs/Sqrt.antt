@@ -1,7 +1,7 @@
 -- The square root of a float, rounded to the nearest `f64`, by comparing squares of whole numbers. Definitions only.
--- That the result is the nearest float and the only one is said without any of this in specs/NearestRoot.antt.
+-- That the result is the nearest float and the only one is said without any of this in NearestRoot.antt and claimed in RootLaws.antt.
 use Prim.Native.Nat.{ℕ, zero, suc, _+_, _-_, _*_, _/_, _^_, compare}
-use mathlib.Core.Bool.{Bool, true, false, cond}
+use mathlib.Core.Bool.{true, false, cond}
 use lib.Dec.{leb}
 use lib.Ieee.{Float, nan, inf, fin, binary64, up, down, size, nearest, units}
 

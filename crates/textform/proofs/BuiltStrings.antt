@@ -24,7 +24,8 @@ use Rattle.arcstring.proofs.Flat.{points-flat, length-flat}
 use Rattle.arcstring.proofs.Builds.{built-count}
 use Rattle.arcstring.proofs.BuiltAccepted.{built-stored}
 use Rattle.arcstring.proofs.BuildsWithout.{build-without, build-alone}
-use Rattle.arcstring_crossing.specs.Listing.{legs, pairsBetween, countsOf, visited, counted}
+use Rattle.arcstring_crossing.specs.Leg.{legs}
+use Rattle.arcstring_listing.specs.Listing.{pairsBetween, countsOf, visited, counted}
 use Rattle.textform.specs.Count.{countsBetween, countBuilt}
 use Rattle.textform.specs.Kept.{plainBuild, plainFloats}
 

@@ -5,7 +5,7 @@ use mathlib.Core.List.{List}
 use Prim.Native.Nat.{ℕ}
 use borrow.Author.Tests.{eq-eqb, ne-eqb}
 use Rattle.arcstring.specs.Answer.{refused, pick}
-use Rattle.arcstring_crossing.specs.declared.listing.Counts.{Counts}
+use Rattle.arcstring_listing.specs.declared.listing.Counts.{Counts}
 use Rattle.textform.specs.declared.count.Outcome.{Outcome}
 use Rattle.textform.specs.declared.count.Outcome.the-variants as O
 use Rattle.textform.specs.Text.{State, wellFormed}

@@ -1,5 +1,9 @@
--- The laws of the text form. For others to cite: `Readings`, the reading in pieces, and that what the code keeps of it is counted as the plain reading is. The rest serves the functions' proofs.
+-- The laws of the text form. For others to cite: `Readings`, the theorems of `specs/TextLaws.antt`; `CountLaws`, those of
+-- `specs/CountLaws.antt`; and `Pieces`, for a program that reads its input piece by
+-- piece. The rest serves the functions' proofs.
 pub mod Readings
+pub mod CountLaws
+pub mod Pieces
 mod Words
 mod Digits
 mod Places

@@ -2,7 +2,7 @@
 use mathlib.Core.Path.{_≡_, ap, _∙_}
 use mathlib.Core.List.{List, [], _∷_, _++_, append-assoc}
 use Prim.Native.Nat.{ℕ}
-use Rattle.arcstring_crossing.specs.declared.listing.Counts.{Counts}
+use Rattle.arcstring_listing.specs.declared.listing.Counts.{Counts}
 use Rattle.textform.specs.Print.{decimal, heading, refusalWord, countsText, refusalText}
 
 -- one part more after what stands there already

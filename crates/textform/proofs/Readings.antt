@@ -1,4 +1,5 @@
--- The whole reading: it may be done in pieces; and what the code keeps of it answers as the plain reading does. Assumes nothing.
+-- The whole reading: it may be done in pieces; and what the code keeps of it answers as the plain reading does: the theorems of `specs/TextLaws.antt`.
+-- Assumes nothing.
 use mathlib.Core.Path.{_≡_, refl, sym, ap, ap₂, _∙_}
 use mathlib.Core.Bool.{Bool, true, false, not, _&&_}
 use mathlib.Core.List.{List, [], _∷_, _++_, map, map-append}
@@ -15,19 +16,20 @@ use Rattle.arcstring.specs.Points.{points}
 use Rattle.arcstring.specs.Build.{builtString}
 use Rattle.arcstring.specs.Check.{inRange, allInRange, listCheck, buildCheck}
 use Rattle.arcstring.proofs.Checks.{too-many, build-enough, build-whole}
-use Rattle.arcstring_crossing.specs.declared.listing.Counts.{Counts}
+use Rattle.arcstring_listing.specs.declared.listing.Counts.{Counts}
 use Rattle.textform.specs.declared.read.Part.{Part}
 use Rattle.textform.specs.declared.read.Part.the-variants as P
 use Rattle.textform.specs.Text.{State, start, partAt, placeAfter, hexDigit, malformed, onward, ifDigit, append, withFloat, stepAt, stepWith, fedWith, reading, wellFormed}
 use Rattle.textform.specs.Kept.{inPlace, keep, keptReading}
 use Rattle.textform.specs.Count.{countsBetween, countBuilt, countState}
+use Rattle.textform.specs.TextLaws.{FedInPieces, KeptCounts}
 use Rattle.textform.proofs.Keeping.{keep-full, keep-more}
 use Rattle.textform.proofs.Triples.{whole-triples}
 
 -- ---- in pieces
 
 -- bytes in two pieces, one after the other
-pub fed-in-pieces : (add : Float → List Float → List Float) (s : State) (xs ys : List ℕ) → fedWith add (fedWith add s xs) ys ≡ fedWith add s (xs ++ ys)
+pub fed-in-pieces : FedInPieces
 unfolding fedWith
 fed-in-pieces add s [] ys = refl
 fed-in-pieces add s (x ∷ xs) ys = fed-in-pieces add (stepWith add s x) xs ys
@@ -155,7 +157,7 @@ all-in-range-same (x ∷ v) h =
     ap₂ _∷_ (in-range-same x (both .0)) (all-in-range-same v (both .1))
 
 -- the checks see of a list its length, and whether all its coordinates are in range
-check-by-parts : (v w : List Float) → length v ≡ length w → allInRange v ≡ allInRange w → buildCheck v ≡ buildCheck w
+pub check-by-parts : (v w : List Float) → length v ≡ length w → allInRange v ≡ allInRange w → buildCheck v ≡ buildCheck w
 unfolding buildCheck listCheck
 check-by-parts v w h g =
     λ i. firstOf (numberIf (not (eqb (h i % 3) 0)) 1) (firstOf (numberIf (ltb (h i / 3) 2) 2) (firstOf (numberIf (ltb 1024 (h i / 3)) 3) (numberIf (not (g i)) 4)))
@@ -196,7 +198,7 @@ kept-built a b h k =
     (λ p q. ap₂ (λ (v w : List Float). answered (countsBetween (builtString (points v)) (builtString (points w)))) (kept-accepted a p) (kept-accepted b q))
 
 -- so the counts are those of the plain reading
-pub kept-counts : (bytes : List ℕ) → countState (keptReading bytes) ≡ countState (reading bytes)
+pub kept-counts : KeptCounts
 unfolding countState wellFormed
 kept-counts bytes = ap countState (kept-reading bytes) ∙ by-test (wellFormed (reading bytes)) refl
   where

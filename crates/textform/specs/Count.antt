@@ -6,8 +6,9 @@ use Rattle.arcstring.specs.Answer.{Answer, refused, answered, unlessRefused, pi
 use Rattle.arcstring.specs.Points.{ArcString, points}
 use Rattle.arcstring.specs.Check.{buildCheck}
 use Rattle.arcstring.specs.Build.{builtString}
-use Rattle.arcstring_crossing.specs.declared.listing.Counts.{Counts}
-use Rattle.arcstring_crossing.specs.Listing.{legs, pairsBetween, countsOf}
+use Rattle.arcstring_crossing.specs.Leg.{legs}
+use Rattle.arcstring_listing.specs.declared.listing.Counts.{Counts}
+use Rattle.arcstring_listing.specs.Listing.{pairsBetween, countsOf}
 use Rattle.textform.specs.Text.{State, reading, wellFormed}
 use Rattle.textform.specs.Print.{printed}
 use Rattle.textform.specs.declared.count.Outcome.{Outcome}

@@ -3,7 +3,7 @@ use mathlib.Core.List.{List, [], _∷_, _++_}
 use Prim.Native.Nat.{ℕ, zero, suc, _+_, _/_, _%_}
 use lib.Dec.{ltb}
 use Rattle.arcstring.specs.Answer.{Answer, refused, answered, pick}
-use Rattle.arcstring_crossing.specs.declared.listing.Counts.{Counts}
+use Rattle.arcstring_listing.specs.declared.listing.Counts.{Counts}
 
 -- the decimal digits of a number, at most so many
 unfoldable pub decimalWithin : ℕ → ℕ → List ℕ

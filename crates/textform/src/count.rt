@@ -4,7 +4,7 @@ ghost use Prim.Native.Nat.{_≤_};
 ghost use lib.ListN.{length, take};
 ghost use Rattle.arcstring.specs.Answer.{leaves};
 ghost use Rattle.arcstring.specs.Build.{builtAnswer, builtResult};
-ghost use Rattle.arcstring_crossing.specs.Listing.{countedAnswer};
+ghost use Rattle.arcstring_listing.specs.Listing.{countedAnswer};
 ghost use Rattle.textform.specs.Kept.{heldState, Sound, plainBuild, plainFloats};
 ghost use Rattle.textform.specs.Print.{printed};
 ghost use Rattle.textform.specs.Count.{countBuilt, countState, outcomeAnswer, output};
@@ -14,9 +14,9 @@ use crate::read::Reader;
 use arcstring::build;
 use arcstring::build::Built;
 use arcstring::check;
-use arcstring_crossing::listing;
-use arcstring_crossing::listing::Counted;
-use arcstring_crossing::listing::Counts;
+use arcstring_listing::listing;
+use arcstring_listing::listing::Counted;
+use arcstring_listing::listing::Counts;
 
 // Counts, or the number of a refusal.
 pub(crate) enum Outcome {

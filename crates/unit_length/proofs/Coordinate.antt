@@ -1,8 +1,8 @@
 -- A coordinate is no longer than the computed length, unless it is tiny: as whole numbers of units of 2 ^ -1074, and with no error at all. Assumes nothing.
 -- A float below x is below it by the 2 ^ -53rd part of x at least, so the rounded root of x * x, rounded, cannot be below x.
 use mathlib.Core.Path.{sym, subst}
-use Prim.Native.Nat.{ℕ, zero, suc, _+_, _-_, _*_, _^_, _≤_, _<_}
-use native.Mathlib.Nat.{le-trans, le-of-lt, lt-of-not-le, zero-lt-suc, mul-pos, mul-le-mul, mul-le-mul-left, mul-le-mul-right}
+use Prim.Native.Nat.{ℕ, _+_, _-_, _*_, _^_, _≤_, _<_}
+use native.Mathlib.Nat.{le-trans, le-of-lt, lt-of-not-le, mul-pos, mul-le-mul, mul-le-mul-left, mul-le-mul-right}
 use native.Mathlib.Decide.{decLe}
 use native.Mathlib.Omega.{arith}
 use lib.Dec.{T, lit≤}
@@ -12,7 +12,7 @@ use lib.Ieee.Scale.{finite}
 use Rattle.ieee754.specs.Size.{abs}
 use Rattle.ieee754.specs.Units.{notNegative}
 use Rattle.ieee754.specs.Closeness.{Close}
-use Rattle.ieee754.proofs.Units.{abs-units, abs-fits, abs-not-negative, positive-of-units}
+use Rattle.ieee754.proofs.Units.{abs-units, abs-fits, abs-not-negative}
 use Rattle.ieee754.proofs.Spacing.{gap-below}
 use Rattle.sphericalpoint.specs.Sqrt.{sqrtOf}
 use Rattle.sphericalpoint.specs.NearestRoot.{inUnits, NearestRoot}
@@ -51,17 +51,8 @@ module _ (x t : Float) (p : ℕ) (F : T (fits binary64 x)) (f : T (finite x)) (G
       go : (q p t m : ℕ) → 2 ^ 53 * q ≤ 2 ^ 53 * (p * m) + p * m + 2 ^ 53 * m → p ≤ t → 2 ^ 53 * q ≤ 2 ^ 53 * (t * m) + t * m + 2 ^ 53 * m
       go q p t m a b = omega (arith, mul-le-mul-right m b)
 
-  sum-positive : 0 < inUnits t
-  sum-positive =
-      go (inUnits x * inUnits x) (inUnits t) (2 ^ 1074) (pow-pos 1074) near-sum
-      (le-trans (lit≤ {m = 2 * 2 ^ 1074} {n = 2 * (2 ^ 53 * 2 ^ 53 * 2 ^ 1074)} tt) square-big)
-    where
-      go : (q t m : ℕ) → 0 < m → 2 ^ 53 * q ≤ 2 ^ 53 * (t * m) + t * m + 2 ^ 53 * m → 2 * m ≤ q → 0 < t
-      go q zero m M a b = absurd (omega arith)
-      go q (suc t) m M a b = zero-lt-suc t
-
   law : NearestRoot t (sqrtOf t)
-  law = sqrt-nearest t G (positive-of-units binary64 t n sum-positive)
+  law = sqrt-nearest t G n
 
   pub coordinate-le : inUnits x ≤ inUnits (sqrtOf t)
   coordinate-le = go (decLe (inUnits x) (inUnits (sqrtOf t)))

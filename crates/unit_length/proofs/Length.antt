@@ -169,5 +169,5 @@ module _ (a : SphericalPoint) (h : IsF64 a) (r : InRange a) where
       (close (a .x) (h .x-fits) (r .x-in-range)) (close (a .y) (h .y-fits) (r .y-in-range)) (close (a .z) (h .z-fits) (r .z-in-range))
       (sum-close binary64 xx yy xx-fits yy-fits (square-sign (a .x) (r .x-in-range)) (square-sign (a .y) (r .y-in-range)) first-finite)
       (sum-close binary64 (first-sum a) zz first-fits zz-fits first-sign (square-sign (a .z) (r .z-in-range)) all-finite)
-      (root-close 64 (lit≤ tt) (all-squares a) (len a) all-fits t (sqrt-nearest (all-squares a) all-fits t))
+      (root-close 64 (lit≤ tt) (all-squares a) (len a) all-fits t (sqrt-nearest (all-squares a) all-fits all-sign))
       (le-trans (lit≤ {m = 2 * (2 ^ 70 * 2 ^ 1074)} {n = 2 ^ 1039 * 2 ^ 1039} tt) (mul-le-mul long long))

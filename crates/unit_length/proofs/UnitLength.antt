@@ -21,7 +21,7 @@ use Rattle.sphericalpoint.specs.declared.SphericalPoint.{SphericalPoint}
 use Rattle.sphericalpoint.specs.Vector.{equalityTolerance, xyzMul, xyzDiv, xyzSum, xyzLength, normalized}
 use Rattle.sphericalpoint.specs.Point.{pickPoint, normalizedUnlessShort}
 use Rattle.sphericalpoint.specs.NearestRoot.{inUnits}
-use Rattle.sphericalpoint.proofs.sqrt.NearestLaw.{root-from-zero}
+use Rattle.sphericalpoint.proofs.sqrt.NearestLaw.{sqrt-nearest}
 use Rattle.unit_length.specs.UnitPoint.{IsF64, InRange, Short, Long, squares, squareOfOne, Within, UnitPoint}
 use Rattle.unit_length.specs.UnitLaws.{NormalizedIsUnit, NormalizedTwiceIsUnit, VertexOnce, VertexTwice}
 use Rattle.unit_length.proofs.Assembly.{quotient-squared, all-over, all-under, total, within-cancel, within-49}
@@ -49,10 +49,10 @@ module _ (a : SphericalPoint) (h : IsF64 a) (r : InRange a) where
   l = inUnits (len a)
 
   len-fits : T (fits binary64 (len a))
-  len-fits = root-from-zero (all-squares a) (all-fits a h r) (all-sign a h r) .0
+  len-fits = sqrt-nearest (all-squares a) (all-fits a h r) (all-sign a h r) .held
 
   len-sign : T (notNegative (len a))
-  len-sign = root-from-zero (all-squares a) (all-fits a h r) (all-sign a h r) .1
+  len-sign = sqrt-nearest (all-squares a) (all-fits a h r) (all-sign a h r) .from-zero
 
   long-is : Long a → 2 ^ 1039 ≤ l
   long-is g = long-units (len a) len-fits len-sign (subst (λ (z : Float). T (not (lt z equalityTolerance))) (length-is a) g)

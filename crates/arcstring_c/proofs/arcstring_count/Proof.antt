@@ -1,6 +1,6 @@
 -- The four counts are put into their places, and a refusal changes nothing. Assumes nothing.
 use mathlib.Core.Path.{refl, sym, ap, _∙_}
-use Rattle.arcstring_crossing.specs.Listing.{countedAnswer}
+use Rattle.arcstring_listing.specs.Listing.{countedAnswer}
 use Rattle.arcstring_c.specs.Numbers.{fourCounts}
 use Rattle.arcstring_c.proofs.Places.{number-as, place-as}
 use borrow.Author.Needs.{needs}

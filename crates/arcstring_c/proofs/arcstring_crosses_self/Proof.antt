@@ -1,5 +1,5 @@
 -- The verdict on a string, as the string layer decides it. Assumes nothing.
-use Rattle.arcstring_crossing.specs.Listing.{crossesSelf}
+use Rattle.arcstring_listing.specs.Listing.{crossesSelf}
 use Rattle.arcstring_c.proofs.Places.{decided-as}
 use borrow.Author.Needs.{needs}
 use Rattle.arcstring_c.proofs.arcstring_crosses_self.Statement.{statement}

@@ -1,5 +1,5 @@
 -- The listing's numbers are put into their places beside its points and marks, and a refusal changes nothing. Assumes nothing.
-use Rattle.arcstring_crossing.specs.Listing.{legCrossings}
+use Rattle.arcstring_listing.specs.Listing.{legCrossings}
 use Rattle.arcstring_c.proofs.Places.{listed-as}
 use borrow.Author.Needs.{needs}
 use Rattle.arcstring_c.proofs.arcstring_leg_crossings.Statement.{statement}

@@ -1,6 +1,6 @@
 -- A listing's numbers are put into their places, and a refusal's changes none. Assumes nothing.
 use mathlib.Core.Path.{refl, sym, ap}
-use Rattle.arcstring_crossing.specs.Listing.{listedAnswer}
+use Rattle.arcstring_listing.specs.Listing.{listedAnswer}
 use Rattle.arcstring_c.specs.Numbers.{listedKept, listedCounts}
 use Rattle.arcstring_c.proofs.Places.{number-as, place-as}
 use borrow.Author.Needs.{needs}

@@ -1,56 +1,77 @@
--- `main` reads, and writes what was concluded. Assumes nothing.
-use mathlib.Core.Path.{sym}
+-- `main` writes what was concluded, and says what failed. Assumes nothing.
+use mathlib.Core.Path.{sym, subst}
 use native.Mathlib.Omega.{arith}
 use lib.Seq.{length-take-le}
+use Rattle.legcount.specs.declared.Said.{Said}
+use Rattle.legcount.specs.declared.Said.the-variants as S
+use Rattle.legcount.specs.Input.{PrintsWhole}
 use borrow.Author.Needs.{needs}
 use Rattle.legcount.proofs.main.Statement.{statement}
 use Rattle.legcount.proofs.main.Tie as tie
 
-slice-aggregate-read-all : tie.Need-slice-aggregate-read-all
-slice-aggregate-read-all c = search needs
+-- what there is to print
+to-print : (n : tie.After-said) → PrintsWhole (S.Text (n .said .given .0 .0)) (n .before .before .before .read-and-count .last .0)
+to-print n = let r = n .before .before .before .read-and-count in subst (λ (s : Said). PrintsWhole s (r .last .0)) (n .said .given .1) (r .ensures)
 
-slice-aggregate-read-all-2 : tie.Need-slice-aggregate-read-all-2
-slice-aggregate-read-all-2 c = search needs
+slice-aggregate-read-and-count : tie.Need-slice-aggregate-read-and-count
+slice-aggregate-read-and-count c = search needs
 
-read-all-requires : tie.Need-read-all-requires
-read-all-requires c κs = search needs
+read-and-count-requires : tie.Need-read-and-count-requires
+read-and-count-requires c κs = search needs
 
-slice-aggregate-conclude : tie.Need-slice-aggregate-conclude
-slice-aggregate-conclude c = search needs
-
-slice-aggregate-conclude-2 : tie.Need-slice-aggregate-conclude-2
-slice-aggregate-conclude-2 c = search needs
-
-slice-aggregate-conclude-3 : tie.Need-slice-aggregate-conclude-3
-slice-aggregate-conclude-3 c = search needs
-
-conclude-requires : tie.Need-conclude-requires
-conclude-requires c κs = search needs
+enum-known-said : tie.Need-enum-known-said
+enum-known-said c = search needs
 
 array-share-prefix-out : tie.Need-array-share-prefix-out
-array-share-prefix-out c = search needs
+array-share-prefix-out c = let r = c .before .before .before .before .read-and-count in
+    let few = to-print (c .before) .1 in
+    omega (arith, r .kept .0)
 
 slice-aggregate-write-all : tie.Need-slice-aggregate-write-all
-slice-aggregate-write-all c = sym (length-take-le _ (c .before .before .conclude .last .1 .1 .1 .0) (array-share-prefix-out (c .before)))
+slice-aggregate-write-all c = sym (length-take-le _ (c .before .before .before .before .before .read-and-count .last .0) (array-share-prefix-out (c .before)))
 
 write-all-requires : tie.Need-write-all-requires
 write-all-requires c κs = search needs
 
+slice-aggregate-complain : tie.Need-slice-aggregate-complain
+slice-aggregate-complain c = search needs
+
+complain-requires : tie.Need-complain-requires
+complain-requires c κs = search needs
+
+enum-told : tie.Need-enum-told
+enum-told c = search needs
+
+slice-aggregate-complain-2 : tie.Need-slice-aggregate-complain-2
+slice-aggregate-complain-2 c = search needs
+
+complain-requires-2 : tie.Need-complain-requires-2
+complain-requires-2 c κs = search needs
+
 returns : tie.Need-returns
 returns c = search needs
+
+returns-2 : tie.Need-returns-2
+returns-2 c = search needs
+
+returns-3 : tie.Need-returns-3
+returns-3 c = search needs
 
 pub main-spec : {M : Type 1} → statement M
 main-spec =
     tie.close
     (tie.spec
-    slice-aggregate-read-all
-    slice-aggregate-read-all-2
-    read-all-requires
-    slice-aggregate-conclude
-    slice-aggregate-conclude-2
-    slice-aggregate-conclude-3
-    conclude-requires
+    slice-aggregate-read-and-count
+    read-and-count-requires
+    enum-known-said
     array-share-prefix-out
     slice-aggregate-write-all
     write-all-requires
-    returns)
+    slice-aggregate-complain
+    complain-requires
+    enum-told
+    slice-aggregate-complain-2
+    complain-requires-2
+    returns
+    returns-2
+    returns-3)

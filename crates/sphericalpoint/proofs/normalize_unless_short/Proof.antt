@@ -1,8 +1,4 @@
 -- `sphericalpoint::normalize_unless_short` meets its contract, whichever way its test goes. Assumes nothing.
-use mathlib.Core.Path.{_≡_, _∙_}
-use mathlib.Core.Bool.{true, false}
-use lib.Ieee.{lt}
-use Rattle.sphericalpoint.specs.Vector.{equalityTolerance, xyzLength}
 use Rattle.sphericalpoint.proofs.Tolerances.{equality-bits}
 use Rattle.sphericalpoint.proofs.Cases.{short-stays, long-divided}
 use borrow.Author.Needs.{needs}

@@ -10,8 +10,9 @@ use lib.Arith.{le→nltb}
 use lib.Ieee.{Float, nan, inf, fin, binary64, fits, isNan, lt, div, ofBits, toBits, nanBits}
 use lib.Ieee.Fits.{up-pos}
 use lib.Ieee.Bits.{ofBits-toBits, nanBits-above}
-use borrow.Author.Tests.{ltb-true, ltb-false}
+use borrow.Author.Tests.{ltb-false}
 use Rattle.sphericalpoint.specs.Sqrt.{sqrtOf}
+use Rattle.sphericalpoint.proofs.sqrt.KnownRoots.{roots-elsewhere}
 use Rattle.sphericalpoint.proofs.sqrt.Units.{finite-bits-lt}
 
 -- ---- above zero
@@ -58,13 +59,8 @@ unfolding div ofBits
 zero-over-zero = refl
 
 pub negative : (x : Float) → lt x (ofBits binary64 0) ≡ true → div binary64 (ofBits binary64 0) (ofBits binary64 0) ≡ sqrtOf x
-unfolding lt ofBits sqrtOf
-negative nan h = zero-over-zero
-negative (inf true) h = zero-over-zero
-negative (inf false) h = absurd (true≢false (sym h))
-negative (fin true zero e) h = absurd (omega (arith, ltb-true))
-negative (fin true (suc m) e) h = zero-over-zero
-negative (fin false m e) h = absurd (omega (arith, ltb-true))
+unfolding ofBits
+negative x h = zero-over-zero ∙ sym (roots-elsewhere .below-zero x h)
 
 -- ---- neither: a NaN or a zero
 

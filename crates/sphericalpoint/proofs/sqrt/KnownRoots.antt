@@ -1,52 +1,52 @@
--- Roots that the definition gives, each computed: of the zeros, 1/4, 1, 2, 4, the smallest float, the infinities, a number below zero and a NaN. Assumes nothing.
-use mathlib.Core.Path.{_≡_, refl}
-use mathlib.Core.Bool.{true, false}
-use lib.IntN.{pos, negsuc}
-use lib.Ieee.{nan, inf, fin}
+-- Roots that the definition gives: where no root is worked out, by its cases; and some, each computed. Assumes nothing.
+use mathlib.Core.Path.{_≡_, refl, sym}
+use mathlib.Core.Bool.{true, false, true≢false}
+use Prim.Native.Nat.{zero, suc}
+use native.Mathlib.Omega.{arith}
+use lib.IntN.{pos}
+use lib.Dec.{T}
+use lib.Ieee.{Float, nan, inf, fin, lt}
+use borrow.Author.Tests.{ltb-true}
+use Rattle.ieee754.specs.Value.{isZero}
 use Rattle.sphericalpoint.specs.Sqrt.{sqrtOf}
+use Rattle.sphericalpoint.specs.RootLaws.{RootsElsewhere, KnownRoots}
 
-pub root-of-zero : sqrtOf (fin false 0 (pos 0)) ≡ fin false 0 (pos 0)
-unfolding sqrtOf
-root-of-zero = refl
+-- ---- not above zero
 
-pub root-of-minus-zero : sqrtOf (fin true 0 (pos 0)) ≡ fin true 0 (pos 0)
+of-zero : (x : Float) → T (isZero x) → sqrtOf x ≡ x
 unfolding sqrtOf
-root-of-minus-zero = refl
+of-zero nan z = absurd z
+of-zero (inf s) z = absurd z
+of-zero (fin s zero e) z = refl
+of-zero (fin s (suc m) e) z = absurd z
 
-pub root-of-a-quarter : sqrtOf (fin false 1 (negsuc 1)) ≡ fin false 1 (negsuc 0)
-unfolding sqrtOf
-root-of-a-quarter = refl
+of-below-zero : (x : Float) → lt x (fin false 0 (pos 0)) ≡ true → sqrtOf x ≡ nan
+unfolding lt sqrtOf
+of-below-zero nan h = refl
+of-below-zero (inf true) h = refl
+of-below-zero (inf false) h = absurd (true≢false (sym h))
+of-below-zero (fin true zero e) h = absurd (omega (arith, ltb-true))
+of-below-zero (fin true (suc m) e) h = refl
+of-below-zero (fin false m e) h = absurd (omega (arith, ltb-true))
 
-pub root-of-one : sqrtOf (fin false 1 (pos 0)) ≡ fin false 1 (pos 0)
+pub roots-elsewhere : RootsElsewhere
 unfolding sqrtOf
-root-of-one = refl
+roots-elsewhere = record { zero-itself = of-zero; infinity-itself = refl; below-zero = of-below-zero; nan-itself = refl }
 
--- 0x16a09e667f3bcd * 2 ^ -52
-pub root-of-two : sqrtOf (fin false 1 (pos 1)) ≡ fin false 0x16a09e667f3bcd (negsuc 51)
-unfolding sqrtOf
-root-of-two = refl
+-- ---- computed
 
-pub root-of-four : sqrtOf (fin false 1 (pos 2)) ≡ fin false 1 (pos 1)
+pub known-roots : KnownRoots
 unfolding sqrtOf
-root-of-four = refl
-
--- the root of 2 ^ -1074 is 2 ^ -537
-pub root-of-smallest : sqrtOf (fin false 1 (negsuc 1073)) ≡ fin false 1 (negsuc 536)
-unfolding sqrtOf
-root-of-smallest = refl
-
-pub root-of-infinity : sqrtOf (inf false) ≡ inf false
-unfolding sqrtOf
-root-of-infinity = refl
-
-pub root-of-minus-infinity : sqrtOf (inf true) ≡ nan
-unfolding sqrtOf
-root-of-minus-infinity = refl
-
-pub root-of-minus-one : sqrtOf (fin true 1 (pos 0)) ≡ nan
-unfolding sqrtOf
-root-of-minus-one = refl
-
-pub root-of-nan : sqrtOf nan ≡ nan
-unfolding sqrtOf
-root-of-nan = refl
+known-roots = record {
+  root-of-zero = refl;
+  root-of-minus-zero = refl;
+  root-of-a-quarter = refl;
+  root-of-one = refl;
+  root-of-two = refl;
+  root-of-four = refl;
+  root-of-smallest = refl;
+  root-of-infinity = refl;
+  root-of-minus-infinity = refl;
+  root-of-minus-one = refl;
+  root-of-nan = refl;
+}

@@ -1,21 +1,21 @@
--- The law: for every finite `f64` x above zero, `sqrtOf x` is the `f64` nearest to √x, and no other float is. Assumes nothing.
+-- The law: for every finite `f64` x from 0 up, `sqrtOf x` is the `f64` nearest to √x, and no other float is. Assumes nothing.
 -- So `NearestRoot x r` and `r ≡ sqrtOf x` say the same of such an x.
 use mathlib.Core.Path.{_≡_, refl, sym, ap, _∙_, subst}
 use mathlib.Core.Bool.{true, false}
 use Prim.Native.Nat.{ℕ, zero, suc, _+_, _*_, _^_, _≤_, _<_}
 use native.Mathlib.Nat.{lt-of-le-of-lt, le-of-suc-le-suc, mul-pos, zero-lt-suc}
 use native.Mathlib.Omega.{arith}
-use lib.Dec.{T, lt→ltb}
+use lib.IntN.{ℤ}
+use lib.Dec.{T}
 use lib.Pow.{pow-pos}
 use lib.Ieee.{Float, nan, inf, fin, binary64, units, fits}
 use lib.Ieee.Exact.{HasValue}
-use lib.Ieee.Positive.{positive}
-use Rattle.ieee754.specs.Units.{notNegative}
-use Rattle.ieee754.proofs.Units.{in-format, placeOf, at-place, units-of, units-lt, value-not-negative, same-units}
+use Rattle.ieee754.proofs.Units.{in-format, placeOf, at-place, zero-units, units-of, units-lt, value-not-negative, same-units}
 use Rattle.ieee754.proofs.Spacing.{on-grid}
 use Rattle.sphericalpoint.specs.Sqrt.{isqrt, sqrtOf}
 use Rattle.sphericalpoint.specs.NearestRoot.{inUnits, NearestRoot}
 use Rattle.sphericalpoint.specs.RootStep.{WholeRoot}
+use Rattle.sphericalpoint.specs.RootLaws.{SqrtNearest, NearestRootUnique}
 use Rattle.sphericalpoint.proofs.sqrt.Squares.{lt-of-pow-lt}
 use Rattle.sphericalpoint.proofs.sqrt.WholeRoots.{isqrt-floor}
 use Rattle.sphericalpoint.proofs.sqrt.Halfway.{half, radicand}
@@ -59,13 +59,30 @@ module _ (x : Float) {m e : ℕ} (p : Parts m e) (v : HasValue x false (m * 2 ^ 
   parts-nearest : NearestRoot x (sqrtOf x)
   parts-nearest = subst (NearestRoot x) (sym rounded-is) root-nearest
 
--- ---- of every x
+-- ---- of zero: no float is smaller, and of every larger one the point halfway is above zero
 
-pub sqrt-nearest : (x : Float) → T (fits binary64 x) → T (positive x) → NearestRoot x (sqrtOf x)
+zero-nearest : (e : ℤ) → T (fits binary64 (fin false 0 e)) → NearestRoot (fin false 0 e) (fin false 0 e)
+zero-nearest e F = record {
+  held = F;
+  from-zero = tt;
+  larger = λ y G q. far-side (inUnits (fin false 0 e)) (inUnits y) (2 ^ 1074) (zero-units binary64 false e);
+  smaller = λ y G q. none (inUnits (fin false 0 e)) (inUnits y) (zero-units binary64 false e);
+}
+  where
+    far-side : (r y u : ℕ) → r ≡ 0 → r < y → 4 * (r * u) < (r + y) * (r + y)
+    far-side r zero u z l = absurd (omega arith)
+    far-side r (suc y) u z l = subst (λ (n : ℕ). 4 * (n * u) < (n + suc y) * (n + suc y)) (sym z) (omega arith)
+
+    none : (r y : ℕ) {n : ℕ} → r ≡ 0 → y < r → (r + y) * (r + y) < n
+    none r y z l = absurd (omega arith)
+
+-- ---- of every x from 0 up
+
+pub sqrt-nearest : SqrtNearest
 sqrt-nearest nan F p = absurd p
 sqrt-nearest (inf s) F p = absurd p
 sqrt-nearest (fin true m e) F p = absurd p
-sqrt-nearest (fin false zero e) F p = absurd p
+sqrt-nearest (fin false zero e) F p = unfold sqrtOf in zero-nearest e F
 sqrt-nearest (fin false (suc m) e) F p =
     let b = in-format binary64 false m e F in
     let v : HasValue (fin false (suc m) e) false (suc m * 2 ^ placeOf binary64 e) (2 ^ 1074) = (refl, at-place binary64 (suc m) e (b .1)) in
@@ -79,16 +96,6 @@ sqrt-nearest (fin false (suc m) e) F p =
     near : (j : ℕ) → suc m * 2 ^ j < 2 ^ 2098 → j ≤ 2097
     near j l = le-of-suc-le-suc (lt-of-pow-lt j 2098 (lt-of-le-of-lt (least (2 ^ j) m) l))
 
--- so the root of an `f64` from 0 up, zero included, is one too
-pub root-from-zero : (x : Float) → T (fits binary64 x) → T (notNegative x) → T (fits binary64 (sqrtOf x)) × T (notNegative (sqrtOf x))
-root-from-zero nan F p = absurd p
-root-from-zero (inf s) F p = absurd p
-root-from-zero (fin true m e) F p = absurd p
-root-from-zero (fin false zero e) F p = unfold sqrtOf in (F, p)
-root-from-zero (fin false (suc m) e) F p =
-    let h = sqrt-nearest (fin false (suc m) e) F (lt→ltb 0 (suc m) (zero-lt-suc m)) in
-    (h .held, h .from-zero)
-
 -- ---- and of nothing else
 
 not-less : (x r t : Float) → NearestRoot x r → NearestRoot x t → inUnits r < inUnits t → ⊥
@@ -97,7 +104,7 @@ not-less x r t h k l = go (inUnits r) (inUnits t) (h .larger t (k .held) (k .fro
     go : (a b : ℕ) {c : ℕ} → c < (a + b) * (a + b) → (b + a) * (b + a) < c → ⊥
     go a b f g = omega arith
 
-pub nearest-root-unique : (x r t : Float) → NearestRoot x r → NearestRoot x t → r ≡ t
+pub nearest-root-unique : NearestRootUnique
 nearest-root-unique x r t h k =
     same-units binary64 r t (h .held) (k .held) (h .from-zero) (k .from-zero) (equal (inUnits r) (inUnits t) (not-less x r t h k) (not-less x t r k h))
   where

@@ -17,10 +17,10 @@ use lib.Ieee.Scale.{finite}
 use Rattle.ieee754.specs.Closeness.{Near}
 use Rattle.ieee754.proofs.Closeness.{root-near}
 use Rattle.ieee754.proofs.Rounded.{Cmp, cmp}
-use Rattle.ieee754.proofs.Units.{exact-units, units-of, positive-units, not-negative-finite}
+use Rattle.ieee754.proofs.Units.{exact-units, units-of, positive-units, value-not-negative, not-negative-finite}
 use Rattle.sphericalpoint.specs.Sqrt.{isqrt, rootUnits, sqrtOf}
 use Rattle.sphericalpoint.specs.RootStep.{WholeRoot}
-use Rattle.sphericalpoint.specs.NearestRoot.{inUnits, RootClose}
+use Rattle.sphericalpoint.specs.NearestRoot.{inUnits, NearestRoot, RootClose}
 use Rattle.sphericalpoint.proofs.sqrt.Squares.{square-mono, even-or-odd}
 use Rattle.sphericalpoint.proofs.sqrt.WholeRoots.{root-ge, isqrt-floor}
 use Rattle.sphericalpoint.proofs.sqrt.NearestLaw.{sqrt-nearest, nearest-root-unique}
@@ -127,11 +127,14 @@ module _ (x : Float) (F : T (fits binary64 x)) (p : T (positive x)) where
   some : 0 < inUnits x
   some = positive-units binary64 x F p
 
+  root-nearest : NearestRoot x (sqrtOf x)
+  root-nearest = sqrt-nearest x F (value-not-negative x (inUnits x) (2 ^ 1074) (positive-value x F p))
+
   root-is : sqrtOf x ≡ units binary64 false (result under-root) (places under-root)
   root-is = root-by-units x (inUnits x) some (positive-value x F p) ∙ opened under-root
 
   root-finite : T (finite (units binary64 false (result under-root) (places under-root)))
-  root-finite = subst (λ (z : Float). T (finite z)) root-is (not-negative-finite (sqrtOf x) (sqrt-nearest x F p .from-zero))
+  root-finite = subst (λ (z : Float). T (finite z)) root-is (not-negative-finite (sqrtOf x) (root-nearest .from-zero))
 
   root-units : inUnits (sqrtOf x) ≡ result under-root * 2 ^ places under-root
   root-units =
@@ -149,4 +152,4 @@ module _ (x : Float) (F : T (fits binary64 x)) (p : T (positive x)) where
 pub root-close : RootClose
 root-close g few x r F p h =
     subst (λ (z : Float). Near (g * 2 ^ 53) (2 * g + 1) (inUnits x * 2 ^ 1074) (inUnits z * inUnits z))
-    (nearest-root-unique x (sqrtOf x) r (sqrt-nearest x F p) h) (sqrt-close x F p g few)
+    (nearest-root-unique x (sqrtOf x) r (root-nearest x F p) h) (sqrt-close x F p g few)

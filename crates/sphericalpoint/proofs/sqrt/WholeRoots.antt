@@ -9,6 +9,7 @@ use lib.Ieee.{size}
 use lib.Ieee.Digits.{size-lt}
 use Rattle.sphericalpoint.specs.Sqrt.{oneMore, isqrtIn, isqrt}
 use Rattle.sphericalpoint.specs.RootStep.{WholeRoot}
+use Rattle.sphericalpoint.specs.RootLaws.{WholeRootFloor, WholeRootUnique}
 use Rattle.sphericalpoint.proofs.sqrt.Squares.{lt-of-square-lt}
 
 -- ---- bounds
@@ -55,9 +56,9 @@ two-le-four : (k : ℕ) → 2 ^ k ≤ 4 ^ k
 two-le-four zero = le-of-eq refl
 two-le-four (suc k) = omega (arith, two-le-four k, pow-succ' 2 k, pow-succ' 4 k)
 
-pub isqrt-floor : (n : ℕ) → WholeRoot n (isqrt n)
+pub isqrt-floor : WholeRootFloor
 unfolding isqrt
 isqrt-floor n = isqrtIn-floor (size n) n (lt-of-lt-of-le (size-lt n) (two-le-four (size n)))
 
-pub isqrt-unique : (n r : ℕ) → WholeRoot n r → isqrt n ≡ r
+pub isqrt-unique : WholeRootUnique
 isqrt-unique n r h = whole-root-unique (isqrt-floor n) h

@@ -1,6 +1,6 @@
 -- The number of pieces is put into its place beside their floats, and a refusal changes nothing. Assumes nothing.
 use mathlib.Core.Path.{_≡_}
-use Rattle.arcstring_split.specs.SplitLeg.{splitLeg}
+use Rattle.arcstring_split_leg.specs.SplitLeg.{splitLeg}
 use Rattle.arcstring_c.proofs.Places.{pieces-number, pieces-count}
 use borrow.Author.Needs.{needs}
 use Rattle.arcstring_c.proofs.edit.arcstring_split_leg.Statement.{statement}

@@ -1,5 +1,5 @@
 -- The number of vertices is put into its place beside their floats, and a refusal changes nothing. Assumes nothing.
-use Rattle.arcstring_relation.specs.Measure.{midpoints}
+use Rattle.arcstring_measure.specs.Measure.{midpoints}
 use Rattle.arcstring_c.proofs.Places.{written-number, written-count}
 use borrow.Author.Needs.{needs}
 use Rattle.arcstring_c.proofs.measure.arcstring_midpoints.Statement.{statement}

@@ -1,5 +1,5 @@
 -- How many floats were written is put into its place beside them, and a refusal changes nothing. Assumes nothing.
-use Rattle.arcstring_relation.specs.Measure.{turnOrientations}
+use Rattle.arcstring_measure.specs.Measure.{turnOrientations}
 use Rattle.arcstring_c.proofs.Places.{written-number, written-count}
 use borrow.Author.Needs.{needs}
 use Rattle.arcstring_c.proofs.measure.arcstring_turn_orientations.Statement.{statement}

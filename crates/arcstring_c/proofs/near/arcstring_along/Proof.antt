@@ -1,5 +1,5 @@
 -- The verdict on a point and a string, as the string layer decides it. Assumes nothing.
-use Rattle.arcstring_relation.specs.OnString.{along}
+use Rattle.arcstring_along.specs.OnString.{along}
 use Rattle.arcstring_c.proofs.Places.{decided-as}
 use borrow.Author.Needs.{needs}
 use Rattle.arcstring_c.proofs.near.arcstring_along.Statement.{statement}

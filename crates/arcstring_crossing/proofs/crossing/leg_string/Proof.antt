@@ -1,5 +1,5 @@
 -- A leg as six floats. Assumes nothing.
-use Rattle.arcstring_crossing.specs.Tally.{legFloats}
+use Rattle.arcstring_crossing.specs.Leg.{legFloats}
 use borrow.Author.Needs.{needs}
 use Rattle.arcstring_crossing.proofs.crossing.leg_string.Statement.{statement}
 use Rattle.arcstring_crossing.proofs.crossing.leg_string.Tie as tie

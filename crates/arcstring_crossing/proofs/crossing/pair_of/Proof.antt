@@ -3,7 +3,7 @@ use native.Mathlib.Omega.{arith}
 use mathlib.Core.Path.{_∙_, ap₂}
 use Rattle.arcstring_crossing.specs.Crossing.{pairOf}
 use Rattle.arcstring_crossing.proofs.Classes.{plane-leg, plane-again}
-use Rattle.arcstring_crossing.proofs.Visits.{leg-as}
+use Rattle.arcstring_crossing.proofs.Legs.{leg-as}
 use borrow.Author.Needs.{needs}
 use Rattle.arcstring_crossing.proofs.crossing.pair_of.Statement.{statement}
 use Rattle.arcstring_crossing.proofs.crossing.pair_of.Tie as tie

@@ -5,7 +5,7 @@ use Prim.Native.Nat.{ℕ, _+_, _-_, _≤_, _<_}
 use native.Mathlib.Omega.{arith}
 use lib.ListN.{length, getD, take}
 use Rattle.arcstring_crossing.specs.Plane.{flaggedFrom}
-use Rattle.arcstring_crossing.proofs.Sifted.{gathered-on, gathered-below, gathered-place, gathered-all}
+use Rattle.arcstring_crossing.proofs.Flagged.{gathered-on, gathered-below, gathered-place, gathered-all}
 use borrow.Author.Needs.{needs}
 use Rattle.arcstring_crossing.proofs.planes.gather.Statement.{statement}
 use Rattle.arcstring_crossing.proofs.planes.gather.Tie as tie

@@ -5,7 +5,7 @@ use native.Mathlib.Omega.{arith}
 use borrow.Author.Needs.{needs}
 use lib.ListN.{length}
 use Rattle.arcstring_crossing.specs.Plane.{planeOf, PlaneAt}
-use Rattle.arcstring_crossing.specs.Tally.{legAt}
+use Rattle.arcstring_crossing.specs.Leg.{legAt}
 use Rattle.arcstring_crossing.proofs.KeptPlanes.{planes-next}
 use Rattle.arcstring_crossing.proofs.planes.keep_planes.Statement.{statement}
 use Rattle.arcstring_crossing.proofs.planes.keep_planes.Tie as tie

@@ -3,7 +3,7 @@ use native.Mathlib.Omega.{arith}
 use mathlib.Core.Path.{_≡_, refl, _∙_}
 use Rattle.arcstring_crossing.specs.Crossing.{classAt, pairOf}
 use Rattle.arcstring_crossing.specs.Plane.{planeLeg, planeOf}
-use Rattle.arcstring_crossing.specs.Tally.{legAt}
+use Rattle.arcstring_crossing.specs.Leg.{legAt}
 use Rattle.arcstring_crossing.proofs.KeptPlanes.{read-class, class-of-leg}
 use borrow.Author.Needs.{needs}
 use Rattle.arcstring_crossing.proofs.planes.pair_at.Statement.{statement}

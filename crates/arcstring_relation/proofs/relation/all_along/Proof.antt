@@ -6,7 +6,7 @@ use lib.ListN.{drop}
 use borrow.Author.Tests.{not-true, not-false}
 use Rattle.arcstring.specs.Points.{points}
 use Rattle.arcstring.proofs.Checks.{stored-whole}
-use Rattle.arcstring_relation.specs.OnString.{stored}
+use Rattle.arcstring_along.specs.OnString.{stored}
 use Rattle.arcstring_relation.specs.Relation.{allAlong}
 use Rattle.arcstring_relation.proofs.Relations.{along-stop, along-go, along-end}
 use borrow.Author.Needs.{needs}

@@ -7,7 +7,7 @@ use lib.ListN.{length, drop}
 use Rattle.arcstring.specs.Answer.{Answer, refused, answered, pick}
 use Rattle.arcstring.specs.Points.{points}
 use Rattle.arcstring.proofs.Checks.{stored-whole, stored-some}
-use Rattle.arcstring_relation.specs.OnString.{stored}
+use Rattle.arcstring_along.specs.OnString.{stored}
 use Rattle.arcstring_simplify.specs.Relation.{overlapLegs}
 use Rattle.arcstring_simplify.proofs.Overlaps.{start-not-along, both-along, end-not-along, closed-end, open-end}
 use borrow.Author.Needs.{needs}

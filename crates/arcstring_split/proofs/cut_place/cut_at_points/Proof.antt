@@ -5,7 +5,7 @@ use native.Mathlib.Omega.{arith}
 use lib.ListN.{length, drop}
 use Rattle.arcstring.specs.Points.{numbered, placeOf, points}
 use Rattle.arcstring.specs.Build.{builtNumbered}
-use Rattle.arcstring_split.specs.Steps.{forEach}
+use Rattle.arcstring_insert.specs.Steps.{forEach}
 use Rattle.arcstring_split.specs.Split.{cutString}
 use Rattle.arcstring_split.specs.Pieces.{firstPieces, Stands}
 use Rattle.arcstring_split.proofs.Rooms.{next-less, next-within}

@@ -3,7 +3,7 @@ use mathlib.Core.Path.{_≡_, refl, sym, ap, _∙_}
 use Prim.Native.Nat.{_-_}
 use native.Mathlib.Omega.{arith}
 use lib.ListN.{take}
-use Rattle.arcstring_split.specs.Steps.{forPositions}
+use Rattle.arcstring_insert.specs.Steps.{forPositions}
 use Rattle.arcstring_split.specs.Pieces.{firstPieces, sum}
 use Rattle.arcstring_split.proofs.Rooms.{next-less}
 use Rattle.arcstring_split.proofs.CutWalks.{Walks, walk-start, walk-end, legStep, leg-off, leg-stops, leg-goes-on}

@@ -5,7 +5,7 @@ use native.Mathlib.Omega.{arith}
 use lib.ListN.{length, take}
 use Rattle.arcstring.specs.Points.{placeOf}
 use Rattle.arcstring.specs.Build.{builtNumbered}
-use Rattle.arcstring_split.specs.Steps.{forPositions}
+use Rattle.arcstring_insert.specs.Steps.{forPositions}
 use Rattle.arcstring_split.specs.Split.{cutPlace}
 use Rattle.arcstring_split.specs.Pieces.{firstPieces, sum}
 use Rattle.arcstring_split.proofs.Rooms.{next-less, next-within, next-fits, place-fits, place-below, points-fit}

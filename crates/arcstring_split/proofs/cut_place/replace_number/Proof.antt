@@ -4,7 +4,8 @@ use Prim.Native.Nat.{_+_, _-_, _≤_}
 use native.Mathlib.Omega.{arith}
 use lib.ListN.{length, take, drop, length-set}
 use Rattle.arcstring.specs.Splice.{splice}
-use Rattle.arcstring_split.proofs.Runs.{moved-none, moved-step, moved-all}
+use Rattle.arcstring_insert.proofs.Moved.{moved-none, moved-step}
+use Rattle.arcstring_split.proofs.Runs.{moved-all}
 use Rattle.arcstring_split.proofs.cut_place.replace_number.Statement.{statement}
 use Rattle.arcstring_split.proofs.cut_place.replace_number.Tie as tie
 

@@ -2,7 +2,7 @@
 use mathlib.Core.Path.{sym, ap, _∙_}
 use borrow.Author.Needs.{needs}
 use Rattle.arcstring.specs.Answer.{refused}
-use Rattle.arcstring_crossing.specs.Listing.{countedAnswer}
+use Rattle.arcstring_listing.specs.Listing.{countedAnswer}
 use Rattle.textform.proofs.count.outcome_of.Statement.{statement}
 use Rattle.textform.proofs.count.outcome_of.Tie as tie
 

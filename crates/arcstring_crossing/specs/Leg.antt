@@ -1,0 +1,40 @@
+-- The legs of a string, all of them and by position, and a leg as a string. Definitions only.
+use mathlib.Core.Bool.{Bool, true, false}
+use mathlib.Core.List.{List, [], _∷_, _++_}
+use Prim.Native.Nat.{ℕ, _+_, _-_}
+use lib.ListN.{take, drop}
+use lib.Dec.{ltb}
+use lib.Ieee.{Float}
+use Rattle.sphericalpoint.specs.declared.SphericalPoint.{SphericalPoint}
+use Rattle.arcstring.specs.Answer.{pick}
+use Rattle.arcstring.specs.Points.{points, pointAt, flat}
+use Rattle.arcstring_crossing.specs.Crossing.{Leg, leg}
+
+-- the legs from u on through the points
+abbrev pub chain : SphericalPoint → List SphericalPoint → List Leg
+chain u [] = []
+chain u (v ∷ vs) = leg u v ∷ chain v vs
+
+-- An open string of n vertices has n - 1 legs; a closed one n, the last back to vertex 0.
+unfoldable pub legs : List SphericalPoint → Bool → List Leg
+legs [] closed = []
+legs (u ∷ vs) false = chain u vs
+legs (u ∷ vs) true = chain u (vs ++ (u ∷ []))
+
+-- ---- by position
+
+-- leg k of n vertices: the last one goes back to vertex 0
+unfoldable pub legAt : List Float → ℕ → ℕ → Leg
+legAt v n k = leg (pointAt v k) (pick (ltb (k + 1) n) (pointAt v (k + 1)) (pointAt v 0))
+
+-- the legs from position `from` up to, not including, `to`, of the string taken as closed; an open string's are all but the last of these
+unfoldable pub legsFrom : List Float → ℕ → ℕ → List Leg
+legsFrom v from to = take (to - from) (drop from (legs (points v) true))
+
+-- how many legs n vertices have
+unfoldable pub legCount : ℕ → Bool → ℕ
+legCount n closed = pick closed n (n - 1)
+
+-- a leg as a string of two vertices
+unfoldable pub legFloats : Leg → List Float
+legFloats l = flat (l .from ∷ l .to ∷ [])

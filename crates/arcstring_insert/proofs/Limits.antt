@@ -1,0 +1,23 @@
+-- What is answered past the check of 1,024 points comes of what was checked. Assumes nothing.
+use mathlib.Core.Path.{_≡_, ap}
+use mathlib.Core.Bool.{Bool, true, false}
+use Prim.Native.Nat.{ℕ}
+use native.Mathlib.Omega.{arith}
+use lib.Dec.{ltb}
+use Rattle.arcstring.specs.Answer.{Answer, answered, unlessRefused, andThen, numberIf}
+use Rattle.arcstring_insert.specs.Steps.{limited}
+
+pub same-answer : {A : Type 0} (x y : A) → answered x ≡ answered y → x ≡ y
+same-answer x y h = cc
+
+module _ {A B : Type 0} (x : A) (f : A → Answer B) (y : B) where
+  past-by : (t : Bool) → andThen (unlessRefused (numberIf t 3) (answered x)) f ≡ answered y → f x ≡ answered y
+  past-by true h = absurd (let z : _≡_ {A = ℕ} 0 1 = cc in omega arith)
+  past-by false h = h
+
+  pub past-limit : (size : ℕ) → andThen (limited size x) f ≡ answered y → f x ≡ answered y
+  unfolding limited
+  past-limit size h = past-by (ltb 1024 size) h
+
+pub within-limit : {A : Type 0} (x y : A) (size : ℕ) → limited size x ≡ answered y → x ≡ y
+within-limit {A} x y size h = same-answer x y (past-limit x answered y size (ap (λ (a : Answer A). andThen a answered) h))

@@ -1,0 +1,96 @@
+-- The pairs that the calls visit are those that the walks over the legs of accepted strings visit. Assumes nothing.
+use mathlib.Core.Path.{_≡_, refl, ap, ap₂, _∙_}
+use mathlib.Core.Bool.{Bool, true, false, not, _&&_}
+use mathlib.Core.List.{List, [], _∷_, map, append-nil}
+use Prim.Native.Nat.{ℕ, _/_, _-_, _*_, _<_, _≤_}
+use native.Mathlib.Nat.{mul-zero}
+use native.Mathlib.Omega.{arith}
+use lib.ListN.{length}
+use lib.Ieee.{Float}
+use Rattle.sphericalpoint.specs.declared.SphericalPoint.{SphericalPoint}
+use Rattle.arcstring.specs.Answer.{numberIf}
+use Rattle.arcstring.specs.Points.{points, flat}
+use Rattle.arcstring.specs.Check.{inRange, allInRange, pointCheck, listCheck, storedCheck}
+use Rattle.arcstring.proofs.Answers.{first-passes, second-passes}
+use Rattle.arcstring.proofs.Checks.{stored-whole}
+use Rattle.arcstring.proofs.Flat.{count-points}
+use Rattle.arcstring_crossing.specs.Crossing.{Leg, pairOf, legCheck}
+use Rattle.arcstring_crossing.specs.Leg.{legs, legsFrom, legCount, legFloats}
+use Rattle.arcstring_crossing.proofs.Legs.{legs-whole}
+use Rattle.arcstring_listing.specs.Listing.{pairsBetween, pairsWithin, visited, legPairs, selfPairs, keptMarks}
+use Rattle.arcstring_listing.proofs.Rows.{length-self, kept-between}
+use Rattle.arcstring_listing.proofs.Tallies.{kept-bound}
+
+module _ (v : List Float) (closed : Bool) (l : ℕ) (accepted : storedCheck v ≡ 0) (count : l ≡ legCount (length v / 3) closed) where
+  all-legs : legsFrom v 0 l ≡ legs (points v) closed
+  all-legs = ap (legsFrom v 0) count ∙ legs-whole v (length v / 3) closed (stored-whole v accepted .triples)
+
+  pub self-visits : pairsWithin (legsFrom v 0 l) ≡ selfPairs v closed
+  unfolding selfPairs
+  self-visits = ap pairsWithin all-legs
+
+pub two-visits : (a : List Float) (a-closed : Bool) (la : ℕ) (b : List Float) (b-closed : Bool) (lb : ℕ) → storedCheck a ≡ 0 → la
+    ≡ legCount (length a / 3) a-closed
+    → storedCheck b ≡ 0 → lb ≡ legCount (length b / 3) b-closed → pairsBetween (legsFrom a 0 la) (legsFrom b 0 lb) ≡ visited a a-closed b b-closed
+unfolding visited
+two-visits a a-closed la b b-closed lb oka ca okb cb = ap₂ pairsBetween (all-legs a a-closed la oka ca) (all-legs b b-closed lb okb cb)
+
+pub kept-two : (a : List Float) (a-closed : Bool) (la : ℕ) (b : List Float) (b-closed : Bool) (lb : ℕ) → storedCheck a ≡ 0 → la
+    ≡ legCount (length a / 3) a-closed
+    → storedCheck b ≡ 0 → lb ≡ legCount (length b / 3) b-closed → length (keptMarks (visited a a-closed b b-closed)) ≤ la * lb
+kept-two a a-closed la b b-closed lb oka ca okb cb = rw (← two-visits a a-closed la b b-closed lb oka ca okb cb) (kept-between a b la lb)
+
+-- twice as many points as a string's pairs with itself keep
+pub kept-self : (v : List Float) → length (keptMarks (selfPairs v false)) * 2 ≤ (length v / 3 - 2) * (length v / 3 - 3)
+unfolding selfPairs
+kept-self v =
+    let ps = pairsWithin (legs (points v) false) in
+    let e : length ps * 2 ≡ (length v / 3 - 2) * (length v / 3 - 3) = length-self (points v) ∙ ap (λ (k : ℕ). (k - 2) * (k - 3)) (count-points v) in
+    omega (arith, kept-bound ps, e)
+
+pub kept-few : (v : List Float) → length v / 3 < 4 → length (keptMarks (selfPairs v false)) ≡ 0
+kept-few v h =
+    let z : length v / 3 - 3 ≡ 0 = omega arith in
+    let e : (length v / 3 - 2) * (length v / 3 - 3) ≡ 0 = ap (λ (k : ℕ). (length v / 3 - 2) * k) z ∙ mul-zero (length v / 3 - 2) in
+    omega (arith, kept-self v, e)
+
+-- ---- a leg as a string of two vertices
+
+in-range : (b : Bool) → numberIf (not b) 4 ≡ 0 → b ≡ true
+in-range true h = refl
+in-range false h = absurd (omega arith)
+
+six-in-range : (p q : SphericalPoint) → pointCheck p ≡ 0 → pointCheck q ≡ 0 → allInRange (flat (p ∷ q ∷ [])) ≡ true
+unfolding pointCheck allInRange
+six-in-range p q hp hq =
+    go (inRange (p .x)) (inRange (p .y)) (inRange (p .z)) (inRange (q .x)) (inRange (q .y)) (inRange (q .z)) (in-range _ hp) (in-range _ hq)
+  where
+    go : (a b c d e f : Bool) → (a && b && c) ≡ true → (d && e && f) ≡ true → (a && (b && (c && (d && (e && (f && true)))))) ≡ true
+    go true true true d e f h k = rest d e f k
+      where
+        rest : (d e f : Bool) → (d && e && f) ≡ true → (d && (e && (f && true))) ≡ true
+        rest true true true k = refl
+        rest true true false k = k
+        rest true false f k = k
+        rest false e f k = k
+    go true true false d e f h k = h
+    go true false c d e f h k = h
+    go false b c d e f h k = h
+
+leg-accepted : (l : Leg) → legCheck l ≡ 0 → storedCheck (legFloats l) ≡ 0
+unfolding legFloats legCheck storedCheck listCheck
+leg-accepted l h =
+    let e = six-in-range (l .from) (l .to) (first-passes (pointCheck (l .from)) (pointCheck (l .to)) h)
+    (second-passes (pointCheck (l .from)) (pointCheck (l .to)) h) in
+    rw e
+
+leg-visits : (l : Leg) (v : List Float) (closed : Bool) → visited (legFloats l) false v closed ≡ legPairs l v closed
+unfolding visited legFloats legs pairsBetween legPairs
+leg-visits l v closed = append-nil (map (pairOf l) (legs (points v) closed))
+
+module _ (l : Leg) (a : List Float) (h : a ≡ legFloats l) where
+  pub accepted-as : legCheck l ≡ 0 → storedCheck a ≡ 0
+  accepted-as ok = ap storedCheck h ∙ leg-accepted l ok
+
+  pub visits-as : (v : List Float) (closed : Bool) → visited a false v closed ≡ legPairs l v closed
+  visits-as v closed = ap (λ (b : List Float). visited b false v closed) h ∙ leg-visits l v closed

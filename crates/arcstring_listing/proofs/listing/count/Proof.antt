@@ -1,0 +1,65 @@
+-- A refusal of the first string, then of the second, else the counts of all pairs. Assumes nothing.
+use mathlib.Core.Path.{_≡_, ap, _∙_}
+use Rattle.arcstring.specs.Answer.{Answer, answered, unlessRefused, firstOf}
+use Rattle.arcstring.specs.Check.{checkNumber, storedCheck}
+use Rattle.arcstring.proofs.Answers.{answer-refused-first, answer-accepted-first, both-numbers}
+use Rattle.arcstring_listing.specs.declared.listing.Counts.{Counts}
+use Rattle.arcstring_listing.specs.Listing.{counted}
+use Rattle.arcstring_listing.proofs.Listings.{both-accepted}
+use Rattle.arcstring_listing.proofs.Tallies.{tally-counts}
+use Rattle.arcstring_listing.proofs.listing.count.Statement.{statement}
+use Rattle.arcstring_listing.proofs.listing.count.Tie as tie
+
+-- the two checks
+number : (c : tie.After-first-of) → checkNumber (c .first-of .result) ≡ firstOf (storedCheck (c .before .before .before .before .before .args .a .now)) (storedCheck (c .before .before .before .before .before .args .b .now))
+number c = c .first-of .ensures ∙ both-numbers (c .before .before .check-stored .ensures) (c .before .check-stored2 .ensures)
+
+-- both accept, so what follows is the answer
+accepted : (c : tie.After-enum-told) → (storedCheck (c .before .before .before .before .before .before .before .args .a .now) ≡ 0) × (storedCheck (c .before .before .before .before .before .before .before .args .b .now) ≡ 0)
+accepted c = both-accepted _ (storedCheck _) (storedCheck _) (c .enum-told .given .1) (number (c .before .before))
+
+follows : (c : tie.After-enum-told) (x : Answer Counts) → x ≡ unlessRefused (storedCheck (c .before .before .before .before .before .before .before .args .a .now)) (unlessRefused (storedCheck (c .before .before .before .before .before .before .before .args .b .now)) x)
+follows c x = answer-accepted-first _ (storedCheck _) (storedCheck _) x (c .enum-told .given .1) (number (c .before .before))
+
+check-stored-requires : tie.Need-check-stored-requires
+check-stored-requires c κs = tt
+
+check-stored-requires-2 : tie.Need-check-stored-requires-2
+check-stored-requires-2 c κs = tt
+
+first-of-requires : tie.Need-first-of-requires
+first-of-requires c κs = tt
+
+enum-known-checked : tie.Need-enum-known-checked
+enum-known-checked c = c .match .keys1
+
+enum-told : tie.Need-enum-told
+enum-told c = c .match .keys2
+
+tally-two-requires : tie.Need-tally-two-requires
+tally-two-requires c κs = accepted c
+
+counts-of-requires : tie.Need-counts-of-requires
+counts-of-requires c κs = tt
+
+returns : tie.Need-returns
+unfolding counted
+returns c = answer-refused-first _ _ (storedCheck _) (storedCheck _) _ (c .before .checked .given .1) (number (c .before .before .before))
+
+returns-2 : tie.Need-returns-2
+unfolding counted
+returns-2 c = ap answered (c .counts-of .ensures ∙ tally-counts _ _ (c .before .tally-two .ensures .0)) ∙ follows (c .before .before) _
+
+pub count-spec : {M : Type 1} → statement M
+count-spec =
+    tie.close
+    (tie.spec
+    check-stored-requires
+    check-stored-requires-2
+    first-of-requires
+    enum-known-checked
+    enum-told
+    tally-two-requires
+    counts-of-requires
+    returns
+    returns-2)

@@ -1,0 +1,44 @@
+-- The buffers hold a point and a mark of every pair of a string with itself, where half of (n - 2) * (n - 3) fits them. Assumes nothing.
+use Prim.Native.Nat.{_-_, _*_, _/_, _≤_}
+use native.Mathlib.Nat.{le-trans, sub-le}
+use native.Mathlib.Omega.{arith}
+use borrow.Author.Tests.{leb-true}
+use lib.ListN.{length}
+use Rattle.arcstring.proofs.Checks.{stored-whole}
+use Rattle.arcstring_crossing.proofs.Signs.{no}
+use Rattle.arcstring_listing.proofs.Bounds.{pairs-fit, half-points-fit, points-held, half-held}
+use Rattle.arcstring_listing.proofs.Rows.{product-small}
+use Rattle.arcstring_listing.proofs.Visits.{kept-self, kept-few}
+use borrow.Author.Needs.{needs}
+use Rattle.arcstring_listing.proofs.listing.holds_self.Statement.{statement}
+use Rattle.arcstring_listing.proofs.listing.holds_self.Tie as tie
+
+small : (c : tie.Else1) → (length (c .before .args .v .now) / 3 - 2) * (length (c .before .args .v .now) / 3 - 3) ≤ 1048576
+small c = let w = stored-whole _ (c .before .pre) in
+    product-small _ _ (le-trans (sub-le _ _) (w .at-most)) (le-trans (sub-le _ _) (w .at-most))
+
+returns : tie.Need-returns
+returns c = λ e. let z = kept-few (c .before .args .v .now) (c .if1 .taken) in (omega (arith, z), omega (arith, z))
+
+sub-pairs : tie.Need-sub-pairs
+sub-pairs c = search needs
+
+sub-pairs-2 : tie.Need-sub-pairs-2
+sub-pairs-2 c = search needs
+
+mul-pairs : tie.Need-mul-pairs
+mul-pairs c = pairs-fit _ (small c)
+
+mul-if2 : tie.Need-mul-if2
+mul-if2 c = half-points-fit _ (small c)
+
+returns-2 : tie.Need-returns-2
+returns-2 c = λ e. let k = half-held _ _ (kept-self (c .before .before .args .v .now)) in
+    (points-held _ _ _ k (c .if2 .taken), le-trans k (leb-true _ _ e))
+
+returns-3 : tie.Need-returns-3
+returns-3 c = λ e. no e
+
+pub holds-self-spec : {M : Type 1} → statement M
+holds-self-spec =
+    tie.close (tie.spec returns sub-pairs sub-pairs-2 mul-pairs mul-if2 returns-2 returns-3)

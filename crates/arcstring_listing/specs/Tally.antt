@@ -1,0 +1,64 @@
+-- What the walks over legs count up, and the pairs that they visit by position: for the contracts of inner functions. Definitions only.
+use mathlib.Core.Path.{_≡_}
+use mathlib.Core.Bool.{Bool, true, false}
+use mathlib.Core.List.{List, map}
+use Prim.Native.Nat.{ℕ, _+_, _-_, _*_, _≤_}
+use lib.ListN.{length, take, drop}
+use lib.Ieee.{Float}
+use Rattle.arcstring.specs.Answer.{pick}
+use Rattle.arcstring.specs.Points.{flat}
+use Rattle.arcstring.specs.Splice.{splice}
+use Rattle.arcstring_crossing.specs.declared.crossing.Pair.{Pair}
+use Rattle.arcstring_crossing.specs.Crossing.{Leg, pairOf}
+use Rattle.arcstring_crossing.specs.Leg.{legAt, legsFrom}
+use Rattle.arcstring_listing.specs.declared.listing.Counts.{Counts}
+use Rattle.arcstring_listing.specs.declared.tally.Tally.{Tally}
+use Rattle.arcstring_listing.specs.Listing.{pairsBetween, pairsWithin, total, oneClean, oneEnd, oneGrazing, oneApart, keptMarks, markPoint, markByte}
+
+abbrev pub noTally : Tally
+noTally = record { clean = 0; end = 0; grazing = 0; apart = 0; kept = 0 }
+
+-- the pairs counted on from a start: those of each class, and the kept ones
+unfoldable pub tallyOn : Tally → List Pair → Tally
+tallyOn t ps =
+    record {
+      clean = t .clean + total oneClean ps;
+      end = t .end + total oneEnd ps;
+      grazing = t .grazing + total oneGrazing ps;
+      apart = t .apart + total oneApart ps;
+      kept = t .kept + length (keptMarks ps);
+    }
+
+abbrev pub tallyCounts : Tally → Counts
+tallyCounts t = record { clean = t .clean; end = t .end; grazing = t .grazing; apart = t .apart }
+
+-- all that has been counted, for bounds
+abbrev pub tallySum : Tally → ℕ
+tallySum t = t .clean + t .end + t .grazing + t .apart + t .kept
+
+-- a leg's pairs with the legs from position `from` up to, not including, `to`
+unfoldable pub rowPairs : Leg → List Float → ℕ → ℕ → List Pair
+rowPairs a v from to = map (pairOf a) (legsFrom v from to)
+
+-- a leg's pairs with the legs at the positions from j up to m of a list
+unfoldable pub foundPairs : Leg → List Float → ℕ → List ℕ → ℕ → ℕ → List Pair
+foundPairs a v n flagged j m = map (λ (k : ℕ). pairOf a (legAt v n k)) (take (m - j) (drop j flagged))
+
+-- where the row of leg i begins: within one string after the next leg
+unfoldable pub rowStart : Bool → ℕ → ℕ
+rowStart within i = pick within (i + 2) 0
+
+-- the pairs that a walk visits from its leg i on: within one string, or between two
+unfoldable pub visitsFrom : Bool → List Float → ℕ → ℕ → List Float → ℕ → List Pair
+visitsFrom within a i la b lb = pick within (pairsWithin (legsFrom a i la)) (pairsBetween (legsFrom a i la) (legsFrom b 0 lb))
+
+-- ---- a walk that writes, or only counts
+
+-- where the walk writes, what these pairs keep fits the buffers from place `at` on
+pub record RoomIf (write : Bool) (ps : List Pair) (at : ℕ) (points : List Float) (marks : List ℕ) : Type 0 where
+  pub fits : write ≡ true → (3 * (at + length (keptMarks ps)) ≤ length points) × (at + length (keptMarks ps) ≤ length marks)
+
+-- where it writes, what these pairs keep is written from place `at` on; else the buffers are as they were
+pub record WrittenIf (write : Bool) (ps : List Pair) (at : ℕ) (points : List Float) (marks : List ℕ) (points' : List Float) (marks' : List ℕ) : Type 0 where
+  pub on : write ≡ true → (points' ≡ splice points (3 * at) (flat (map markPoint (keptMarks ps)))) × (marks' ≡ splice marks at (map markByte (keptMarks ps)))
+  pub off : write ≡ false → (points' ≡ points) × (marks' ≡ marks)

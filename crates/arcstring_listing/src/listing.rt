@@ -1,0 +1,360 @@
+// The crossings and the four counts of two strings, of a leg and a string, and of a string with itself. The kept
+// points are the source's, each with a mark byte: 1 clean, 0 grazing. `tally_two`, with its `requires`, is for the crates
+// of the string layer, not for users.
+ghost use mathlib.Core.Path.{_≡_};
+ghost use mathlib.Core.Bool.{true, false};
+ghost use mathlib.Core.List.{map};
+ghost use Prim.Native.Nat.{_*_, _≤_};
+ghost use lib.ListN.{length};
+ghost use Rattle.arcstring.specs.Answer.{firstOf, leaves};
+ghost use Rattle.arcstring.specs.Points.{flat};
+ghost use Rattle.arcstring.specs.Splice.{splice};
+ghost use Rattle.arcstring.specs.Check.{checkNumber, storedCheck, roomCheck};
+ghost use Rattle.arcstring.specs.Build.{normalizedAll};
+ghost use Rattle.arcstring.specs.Point.{decidedAnswer};
+ghost use Rattle.arcstring_crossing.specs.Crossing.{leg, legOf, legCheck};
+ghost use Rattle.arcstring_listing.specs.Listing.{keptMarks, markPoint, markByte, listingOf, inRoom, visited, legPairs, selfPairs, counted};
+ghost use Rattle.arcstring_listing.specs.Listing.{legCrossings, selfCrossings, crossesSelf, sameSide, countedAnswer, listedAnswer, listedResult};
+ghost use Rattle.arcstring_listing.specs.Listing.{listedFloats, listedBytes};
+ghost use Rattle.arcstring_listing.specs.Listing as Listing;
+ghost use Rattle.arcstring_listing.specs.Tally.{noTally, tallyOn};
+use crate::tally;
+use crate::tally::Tally;
+use crate::walk;
+use arcstring::build;
+use arcstring::check;
+use arcstring::check::Checked;
+use arcstring::check::Decided;
+use arcstring::check::Refusal;
+use arcstring_crossing::crossing;
+use arcstring_crossing::leg;
+use sphericalpoint::SphericalPoint;
+
+// How many of the visited pairs are in each class.
+pub struct Counts {
+    pub clean: u64,
+    pub end: u64,
+    pub grazing: u64,
+    pub apart: u64,
+}
+
+pub enum Counted {
+    Counts(Counts),
+    Refused(Refusal),
+}
+
+// How many points were kept, and the counts.
+pub enum Listed {
+    Listing(usize, Counts),
+    Refused(Refusal),
+}
+
+// The pairs of two accepted strings, counted.
+pub fn tally_two(a: &[f64], a_closed: bool, b: &[f64], b_closed: bool) -> Tally
+    requires { ⌜ (storedCheck (now a) ≡ 0) × (storedCheck (now b) ≡ 0) ⌝ }
+    ensures { λ r. ⌜ (r ≡ tallyOn noTally (visited (now (a .entry)) «a_closed» (now (b .entry)) «b_closed»)) × (r .kept ≤ 1048576) ⌝ }
+{
+    let na = a.len() / 3;
+    let nb = b.len() / 3;
+    walk::count_between(
+        a,
+        na,
+        leg::leg_count(na, a_closed),
+        b,
+        nb,
+        leg::leg_count(nb, b_closed),
+    )
+}
+
+// The pairs of two accepted strings, counted, and what they keep written.
+fn visit_two(
+    a: &[f64],
+    a_closed: bool,
+    b: &[f64],
+    b_closed: bool,
+    points: &mut [f64],
+    marks: &mut [u8],
+) -> Tally
+    requires { ⌜ (storedCheck (now a) ≡ 0) × (storedCheck (now b) ≡ 0) ⌝ }
+    requires { ⌜ 3 * length (keptMarks (visited (now a) «a_closed» (now b) «b_closed»)) ≤ length (now points) ⌝ }
+    requires { ⌜ length (keptMarks (visited (now a) «a_closed» (now b) «b_closed»)) ≤ length (now marks) ⌝ }
+    ensures { λ r. ⌜ r ≡ tallyOn noTally (visited (now (a .entry)) «a_closed» (now (b .entry)) «b_closed») ⌝ }
+    ensures { λ _. ⌜ now (points .exit) ≡ splice (now (points .entry)) 0 (flat (map markPoint
+        (keptMarks (visited (now (a .entry)) «a_closed» (now (b .entry)) «b_closed»)))) ⌝ }
+    ensures { λ _. ⌜ now (marks .exit) ≡ splice (now (marks .entry)) 0 (map markByte
+        (keptMarks (visited (now (a .entry)) «a_closed» (now (b .entry)) «b_closed»))) ⌝ }
+{
+    let na = a.len() / 3;
+    let nb = b.len() / 3;
+    let la = leg::leg_count(na, a_closed);
+    let lb = leg::leg_count(nb, b_closed);
+    walk::visit(a, na, la, b, nb, lb, false, true, points, marks)
+}
+
+// What the pairs of two accepted strings keep, written. Where they keep nothing there is no walk.
+fn write_two(
+    a: &[f64],
+    a_closed: bool,
+    b: &[f64],
+    b_closed: bool,
+    kept: usize,
+    points: &mut [f64],
+    marks: &mut [u8],
+)
+    requires { ⌜ (storedCheck (now a) ≡ 0) × (storedCheck (now b) ≡ 0) × (kept ≡ length (keptMarks (visited (now a) «a_closed» (now b) «b_closed»))) ⌝ }
+    requires { ⌜ 3 * length (keptMarks (visited (now a) «a_closed» (now b) «b_closed»)) ≤ length (now points) ⌝ }
+    requires { ⌜ length (keptMarks (visited (now a) «a_closed» (now b) «b_closed»)) ≤ length (now marks) ⌝ }
+    ensures { λ _. ⌜ now (points .exit) ≡ splice (now (points .entry)) 0 (flat (map markPoint
+        (keptMarks (visited (now (a .entry)) «a_closed» (now (b .entry)) «b_closed»)))) ⌝ }
+    ensures { λ _. ⌜ now (marks .exit) ≡ splice (now (marks .entry)) 0 (map markByte
+        (keptMarks (visited (now (a .entry)) «a_closed» (now (b .entry)) «b_closed»))) ⌝ }
+{
+    if kept == 0 {
+        return;
+    }
+    let t = visit_two(a, a_closed, b, b_closed, points, marks);
+}
+
+// Whether buffers of so many floats and so many bytes hold a point and a mark of every pair of two accepted strings.
+fn holds_all(
+    a: &[f64],
+    a_closed: bool,
+    b: &[f64],
+    b_closed: bool,
+    points: usize,
+    marks: usize,
+) -> bool
+    requires { ⌜ (storedCheck (now a) ≡ 0) × (storedCheck (now b) ≡ 0) ⌝ }
+    ensures { λ r. ⌜ (r ≡ true → (3 * length (keptMarks (visited (now (a .entry)) «a_closed» (now (b .entry)) «b_closed»)) ≤ points)
+        × (length (keptMarks (visited (now (a .entry)) «a_closed» (now (b .entry)) «b_closed»)) ≤ marks)) ⌝ }
+{
+    let pairs = leg::leg_count(a.len() / 3, a_closed) * leg::leg_count(b.len() / 3, b_closed);
+    if 3 * pairs <= points {
+        return pairs <= marks;
+    }
+    false
+}
+
+// Whether so many kept points and their marks fit the buffers.
+fn check_buffers(kept: usize, points: usize, marks: usize) -> Checked
+    requires { ⌜ kept ≤ 1048576 ⌝ }
+    ensures { λ r. ⌜ checkNumber r ≡ firstOf (roomCheck (3 * kept) points) (roomCheck kept marks) ⌝ }
+{
+    check::first_of(
+        check::check_room(3 * kept, points),
+        check::check_room(kept, marks),
+    )
+}
+
+// The four counts of the pairs of every leg of the first string with every leg of the second.
+// Refuses by 1, 3 and 4 of the first string's vertices, then of the second's.
+pub fn count(a: &[f64], a_closed: bool, b: &[f64], b_closed: bool) -> Counted
+    ensures { λ r. ⌜ countedAnswer r ≡ counted (now (a .entry)) «a_closed» (now (b .entry)) «b_closed» ⌝ }
+{
+    let checked = check::first_of(check::check_stored(a), check::check_stored(b));
+    match checked {
+        Checked::Refused(e) => Counted::Refused(e),
+        Checked::Accepted => {
+            Counted::Counts(tally::counts_of(tally_two(a, a_closed, b, b_closed)))
+        }
+    }
+}
+
+// The kept points of the pairs of two accepted strings, their marks and the four counts. Where the buffers hold a point of
+// every pair one walk counts and writes; else the pairs are counted first, and what does not fit is refused by 7.
+fn list_two(
+    a: &[f64],
+    a_closed: bool,
+    b: &[f64],
+    b_closed: bool,
+    points: &mut [f64],
+    marks: &mut [u8],
+) -> Listed
+    requires { ⌜ (storedCheck (now a) ≡ 0) × (storedCheck (now b) ≡ 0) ⌝ }
+    ensures { λ r. ⌜ listedAnswer r ≡ listedResult (inRoom (listingOf (visited (now (a .entry)) «a_closed» (now (b .entry)) «b_closed»))
+        (length (now (points .entry))) (length (now (marks .entry)))) ⌝ }
+    ensures { λ _. ⌜ now (points .exit) ≡ leaves (listedFloats (inRoom (listingOf (visited (now (a .entry)) «a_closed» (now (b .entry)) «b_closed»))
+        (length (now (points .entry))) (length (now (marks .entry))))) (now (points .entry)) ⌝ }
+    ensures { λ _. ⌜ now (marks .exit) ≡ leaves (listedBytes (inRoom (listingOf (visited (now (a .entry)) «a_closed» (now (b .entry)) «b_closed»))
+        (length (now (points .entry))) (length (now (marks .entry))))) (now (marks .entry)) ⌝ }
+{
+    if holds_all(a, a_closed, b, b_closed, points.len(), marks.len()) {
+        let t = visit_two(a, a_closed, b, b_closed, points, marks);
+        return Listed::Listing(t.kept, tally::counts_of(t));
+    }
+    let t = tally_two(a, a_closed, b, b_closed);
+    let room = check_buffers(t.kept, points.len(), marks.len());
+    if let Checked::Refused(e) = room {
+        return Listed::Refused(e);
+    }
+    write_two(a, a_closed, b, b_closed, t.kept, points, marks);
+    Listed::Listing(t.kept, tally::counts_of(t))
+}
+
+// The kept points of the same pairs, leg by leg of the first string, with their marks and the four counts.
+// Refuses by 1, 3 and 4 of the first string's vertices, then of the second's, and by 7.
+pub fn crossings(
+    a: &[f64],
+    a_closed: bool,
+    b: &[f64],
+    b_closed: bool,
+    points: &mut [f64],
+    marks: &mut [u8],
+) -> Listed
+    ensures { λ r. ⌜ listedAnswer r ≡ listedResult (Listing.crossings (now (a .entry)) «a_closed» (now (b .entry)) «b_closed» (length (now (points .entry))) (length (now (marks .entry)))) ⌝ }
+    ensures { λ _. ⌜ now (points .exit) ≡ leaves (listedFloats (Listing.crossings (now (a .entry)) «a_closed» (now (b .entry)) «b_closed» (length (now (points .entry))) (length (now (marks .entry))))) (now (points .entry)) ⌝ }
+    ensures { λ _. ⌜ now (marks .exit) ≡ leaves (listedBytes (Listing.crossings (now (a .entry)) «a_closed» (now (b .entry)) «b_closed» (length (now (points .entry))) (length (now (marks .entry))))) (now (marks .entry)) ⌝ }
+{
+    let checked = check::first_of(check::check_stored(a), check::check_stored(b));
+    if let Checked::Refused(e) = checked {
+        return Listed::Refused(e);
+    }
+    list_two(a, a_closed, b, b_closed, points, marks)
+}
+
+// One leg against an accepted string, counted.
+fn tally_leg(arc: [[f64; 3]; 2], v: &[f64], closed: bool) -> Tally
+    requires { ⌜ (legCheck (legOf arc) ≡ 0) × (storedCheck (now v) ≡ 0) ⌝ }
+    ensures { λ r. ⌜ r ≡ tallyOn noTally (legPairs (legOf arc) (now (v .entry)) closed) ⌝ }
+{
+    let a = crossing::leg_string(arc);
+    tally_two(&a, false, v, closed)
+}
+
+// The kept points of one leg with every leg of a string, their marks and the four counts.
+// Refuses by 4 of the leg, by 1, 3 and 4 of the string's vertices, and by 7.
+pub fn arc_crossings_with_arcstring(
+    arc: [[f64; 3]; 2],
+    v: &[f64],
+    closed: bool,
+    points: &mut [f64],
+    marks: &mut [u8],
+) -> Listed
+    ensures { λ r. ⌜ listedAnswer r ≡ listedResult (legCrossings (legOf arc) (now (v .entry)) closed (length (now (points .entry))) (length (now (marks .entry)))) ⌝ }
+    ensures { λ _. ⌜ now (points .exit) ≡ leaves (listedFloats (legCrossings (legOf arc) (now (v .entry)) closed (length (now (points .entry))) (length (now (marks .entry))))) (now (points .entry)) ⌝ }
+    ensures { λ _. ⌜ now (marks .exit) ≡ leaves (listedBytes (legCrossings (legOf arc) (now (v .entry)) closed (length (now (points .entry))) (length (now (marks .entry))))) (now (marks .entry)) ⌝ }
+{
+    let checked = check::first_of(crossing::check_leg(arc), check::check_stored(v));
+    if let Checked::Refused(e) = checked {
+        return Listed::Refused(e);
+    }
+    let a = crossing::leg_string(arc);
+    list_two(&a, false, v, closed, points, marks)
+}
+
+// Whether two points are on the same side of a string: the leg between them has an even number of kept points with
+// it. Refuses by 4 of the points, then by 1, 3 and 4 of the string's vertices.
+pub fn points_are_on_same_side(
+    point_a: SphericalPoint,
+    point_b: SphericalPoint,
+    v: &[f64],
+    closed: bool,
+) -> Decided
+    ensures { λ r. ⌜ decidedAnswer r ≡ sameSide (leg «point_a» «point_b») (now (v .entry)) closed ⌝ }
+{
+    let arc = [
+        [point_a.x, point_a.y, point_a.z],
+        [point_b.x, point_b.y, point_b.z],
+    ];
+    let checked = check::first_of(crossing::check_leg(arc), check::check_stored(v));
+    if let Checked::Refused(e) = checked {
+        return Decided::Refused(e);
+    }
+    let t = tally_leg(arc, v, closed);
+    Decided::Verdict(t.kept % 2 == 0)
+}
+
+// An accepted string against itself, counted, its closing leg too where it is taken as closed.
+fn tally_self(v: &[f64], closed: bool) -> Tally
+    requires { ⌜ storedCheck (now v) ≡ 0 ⌝ }
+    ensures { λ r. ⌜ (r ≡ tallyOn noTally (selfPairs (now (v .entry)) closed)) × (r .kept ≤ 1048576) ⌝ }
+{
+    let n = v.len() / 3;
+    walk::count_within(v, n, leg::leg_count(n, closed))
+}
+
+// An accepted string's pairs with itself, counted, and what they keep written and then normalised in place.
+fn visit_self(v: &[f64], points: &mut [f64], marks: &mut [u8]) -> Tally
+    requires { ⌜ storedCheck (now v) ≡ 0 ⌝ }
+    requires { ⌜ (3 * length (keptMarks (selfPairs (now v) false)) ≤ length (now points))
+        × (length (keptMarks (selfPairs (now v) false)) ≤ length (now marks)) ⌝ }
+    ensures { λ r. ⌜ r ≡ tallyOn noTally (selfPairs (now (v .entry)) false) ⌝ }
+    ensures { λ _. ⌜ now (points .exit) ≡ splice (now (points .entry)) 0 (flat (normalizedAll
+        (map markPoint (keptMarks (selfPairs (now (v .entry)) false))))) ⌝ }
+    ensures { λ _. ⌜ now (marks .exit) ≡ splice (now (marks .entry)) 0 (map markByte (keptMarks (selfPairs (now (v .entry)) false))) ⌝ }
+{
+    let n = v.len() / 3;
+    let t = walk::visit(v, n, n - 1, v, n, n - 1, true, true, points, marks);
+    build::normalize_points(points, t.kept);
+    t
+}
+
+// What an accepted string's pairs with itself keep, written and normalised. Where they keep nothing there is no walk.
+fn write_self(v: &[f64], kept: usize, points: &mut [f64], marks: &mut [u8])
+    requires { ⌜ (storedCheck (now v) ≡ 0) × (kept ≡ length (keptMarks (selfPairs (now v) false))) ⌝ }
+    requires { ⌜ (3 * kept ≤ length (now points)) × (kept ≤ length (now marks)) ⌝ }
+    ensures { λ _. ⌜ now (points .exit) ≡ splice (now (points .entry)) 0 (flat (normalizedAll
+        (map markPoint (keptMarks (selfPairs (now (v .entry)) false))))) ⌝ }
+    ensures { λ _. ⌜ now (marks .exit) ≡ splice (now (marks .entry)) 0 (map markByte (keptMarks (selfPairs (now (v .entry)) false))) ⌝ }
+{
+    if kept == 0 {
+        return;
+    }
+    let t = visit_self(v, points, marks);
+}
+
+// Whether buffers of so many floats and so many bytes hold a point and a mark of every pair of an accepted string with
+// itself.
+fn holds_self(v: &[f64], points: usize, marks: usize) -> bool
+    requires { ⌜ storedCheck (now v) ≡ 0 ⌝ }
+    ensures { λ r. ⌜ (r ≡ true → (3 * length (keptMarks (selfPairs (now (v .entry)) false)) ≤ points)
+        × (length (keptMarks (selfPairs (now (v .entry)) false)) ≤ marks)) ⌝ }
+{
+    let n = v.len() / 3;
+    if n < 4 {
+        return true;
+    }
+    let pairs = (n - 2) * (n - 3) / 2;
+    if 3 * pairs <= points {
+        return pairs <= marks;
+    }
+    false
+}
+
+// The kept points of a string with itself, normalised, their marks and the four counts: legs i and j with
+// i + 2 <= j <= n - 2, so the closing leg of a closed string is not visited.
+// Refuses by 1, 3 and 4 of the vertices, and by 7.
+pub fn crossings_with_self(v: &[f64], points: &mut [f64], marks: &mut [u8]) -> Listed
+    ensures { λ r. ⌜ listedAnswer r ≡ listedResult (selfCrossings (now (v .entry)) (length (now (points .entry))) (length (now (marks .entry)))) ⌝ }
+    ensures { λ _. ⌜ now (points .exit) ≡ leaves (listedFloats (selfCrossings (now (v .entry)) (length (now (points .entry))) (length (now (marks .entry))))) (now (points .entry)) ⌝ }
+    ensures { λ _. ⌜ now (marks .exit) ≡ leaves (listedBytes (selfCrossings (now (v .entry)) (length (now (points .entry))) (length (now (marks .entry))))) (now (marks .entry)) ⌝ }
+{
+    let checked = check::check_stored(v);
+    if let Checked::Refused(e) = checked {
+        return Listed::Refused(e);
+    }
+    if holds_self(v, points.len(), marks.len()) {
+        let t = visit_self(v, points, marks);
+        return Listed::Listing(t.kept, tally::counts_of(t));
+    }
+    let t = tally_self(v, false);
+    let room = check_buffers(t.kept, points.len(), marks.len());
+    if let Checked::Refused(e) = room {
+        return Listed::Refused(e);
+    }
+    write_self(v, t.kept, points, marks);
+    Listed::Listing(t.kept, tally::counts_of(t))
+}
+
+// Whether a string crosses itself, its closing leg visited too, also against leg 0; no below 4 vertices.
+// Refuses by 1, 3 and 4 of the vertices.
+pub fn crosses_self(v: &[f64], closed: bool) -> Decided
+    ensures { λ r. ⌜ decidedAnswer r ≡ crossesSelf (now (v .entry)) closed ⌝ }
+{
+    let checked = check::check_stored(v);
+    if let Checked::Refused(e) = checked {
+        return Decided::Refused(e);
+    }
+    let t = tally_self(v, closed);
+    Decided::Verdict((v.len() / 3 >= 4) & (t.kept > 0))
+}

@@ -1,0 +1,2 @@
+-- The definitions of turn orientations and midpoints.
+pub mod Measure

@@ -1,0 +1,6 @@
+// What is worked out at each vertex or leg of a string, as document 01 has it. Above the promises of arcstring_crossing, of the same
+// layer: each call takes any lists and flags, and says by its contract what it answers and what it leaves in the buffer that it was
+// lent.
+//
+//     measure   turn orientations and midpoints
+pub mod measure;

@@ -1,0 +1,24 @@
+-- Legs as they stand at the start of a list that is worked on, and how many pieces a cut leaves: for the contracts of inner functions. Definitions only.
+use mathlib.Core.List.{List, [], _∷_}
+use Prim.Native.Nat.{ℕ, _*_}
+use lib.Ieee.{Float}
+use Rattle.sphericalpoint.specs.declared.SphericalPoint.{SphericalPoint}
+use Rattle.arcstring.specs.Answer.{Answer, refused, answered, refusalNumber}
+use Rattle.arcstring.specs.Work.{firstOfList}
+use Rattle.arcstring_crossing.specs.Crossing.{Leg, leg}
+use Rattle.arcstring_split_leg.specs.declared.split.Cut.{Cut}
+use Rattle.arcstring_split_leg.specs.declared.split.Cut.the-variants as C
+
+-- points taken two by two, as the legs of a split leg stand
+unfoldable pub legsOf : List SphericalPoint → List Leg
+legsOf [] = []
+legsOf (p ∷ []) = []
+legsOf (p ∷ q ∷ ps) = leg p q ∷ legsOf ps
+
+abbrev pub heldLegs : Cut → List Float → Answer (List Leg)
+heldLegs (C.Pieces m) v = answered (legsOf (firstOfList (2 * m) v))
+heldLegs (C.Refused e) v = refused (refusalNumber e)
+
+abbrev pub cutCount : Cut → ℕ
+cutCount (C.Pieces m) = m
+cutCount (C.Refused e) = 0

@@ -1,0 +1,2 @@
+-- The laws of a read's answer, for the functions' proofs.
+mod Answers

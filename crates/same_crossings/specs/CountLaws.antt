@@ -1,0 +1,89 @@
+-- What is claimed of the counts and the clean points that the calls answer: the counts add up to the number of visited pairs, the counting call and the
+-- listing give the same ones, and the clean points are those of the clean pairs, one for each. Definitions only. The proofs are in `proofs/Counting.antt`.
+use mathlib.Core.Path.{_≡_}
+use mathlib.Core.Bool.{Bool, false}
+use mathlib.Core.List.{List, map, filterMap}
+use mathlib.Core.Option.{Option, none, some}
+use Prim.Native.Nat.{ℕ, _+_, _-_, _*_, _/_}
+use lib.ListN.{length}
+use lib.Ieee.{Float}
+use Rattle.sphericalpoint.specs.declared.SphericalPoint.{SphericalPoint}
+use Rattle.sphericalpoint.specs.Point.{normalizedUnlessShort}
+use Rattle.arcstring.specs.Answer.{answered}
+use Rattle.arcstring.specs.Points.{itself}
+use Rattle.arcstring_crossing.specs.declared.crossing.Pair.{Pair}
+use Rattle.arcstring_crossing.specs.declared.crossing.Pair.the-variants.{Clean, End, Grazing, Apart}
+use Rattle.arcstring_crossing.specs.Crossing.{Leg}
+use Rattle.arcstring_crossing.specs.Leg.{legCount}
+use Rattle.arcstring_listing.specs.declared.listing.Counts.{Counts}
+use Rattle.arcstring_listing.specs.Listing.{countsOf, cleanPoints, Listing, visited, counted, crossings, legPairs, legCrossings, selfPairs, selfCrossings}
+
+-- ---- how many pairs
+
+abbrev pub sumOfCounts : Counts → ℕ
+sumOfCounts c = c .clean + c .end + c .grazing + c .apart
+
+-- the vertices of a flat list, and the legs of a string that has them
+abbrev pub verticesIn : List Float → ℕ
+verticesIn v = length v / 3
+
+abbrev pub legsIn : List Float → Bool → ℕ
+legsIn v closed = legCount (verticesIn v) closed
+
+-- two strings: legs times legs, by the counting call
+abbrev pub CountsAddUp : Type 0
+CountsAddUp =
+    (a : List Float) (aClosed : Bool) (b : List Float) (bClosed : Bool) (c : Counts) → counted a aClosed b bClosed ≡ answered c
+    → sumOfCounts c ≡ legsIn a aClosed * legsIn b bClosed
+
+-- and by the listing, which has the counts of the counting call
+abbrev pub ListingAgrees : Type 0
+ListingAgrees =
+    (a : List Float) (aClosed : Bool) (b : List Float) (bClosed : Bool) (p m : ℕ) (l : Listing) → crossings a aClosed b bClosed p m ≡ answered l
+    → counted a aClosed b bClosed ≡ answered (l .counts)
+
+abbrev pub ListingAddsUp : Type 0
+ListingAddsUp =
+    (a : List Float) (aClosed : Bool) (b : List Float) (bClosed : Bool) (p m : ℕ) (l : Listing) → crossings a aClosed b bClosed p m ≡ answered l
+    → sumOfCounts (l .counts) ≡ legsIn a aClosed * legsIn b bClosed
+
+-- one leg and a string: the string's legs
+abbrev pub LegListingAddsUp : Type 0
+LegListingAddsUp =
+    (arc : Leg) (v : List Float) (closed : Bool) (p m : ℕ) (l : Listing) → legCrossings arc v closed p m ≡ answered l
+    → sumOfCounts (l .counts) ≡ legsIn v closed
+
+-- a string of n vertices with itself: half of (n - 2) * (n - 3), where a difference stops at 0, so that there are no pairs below n = 4
+abbrev pub SelfListingAddsUp : Type 0
+SelfListingAddsUp =
+    (v : List Float) (p m : ℕ) (l : Listing) → selfCrossings v p m ≡ answered l → sumOfCounts (l .counts) * 2 ≡ (verticesIn v - 2) * (verticesIn v - 3)
+
+-- ---- the clean points
+
+-- the point of a clean pair; a pair of another class has none here
+abbrev pub pointOfClean : Pair → Option SphericalPoint
+pointOfClean (Clean p) = some p
+pointOfClean (End p) = none
+pointOfClean (Grazing o) = none
+pointOfClean Apart = none
+
+-- What a listing says of the visited pairs `ps`: its counts are theirs; and its clean points are the points of the clean pairs, in sequence, one for each, as
+-- `written` writes them, and so as many as its count says.
+pub record ListedOf (ps : List Pair) (written : SphericalPoint → SphericalPoint) (l : Listing) : Type 0 where
+  pub counts-of-pairs : l .counts ≡ countsOf ps
+  pub clean-of-pairs : cleanPoints (l .marks) ≡ map written (filterMap pointOfClean ps)
+  pub as-many : length (cleanPoints (l .marks)) ≡ l .counts .clean
+
+abbrev pub ListingOfPairs : Type 0
+ListingOfPairs =
+    (a : List Float) (aClosed : Bool) (b : List Float) (bClosed : Bool) (p m : ℕ) (l : Listing) → crossings a aClosed b bClosed p m ≡ answered l
+    → ListedOf (visited a aClosed b bClosed) itself l
+
+abbrev pub LegListingOfPairs : Type 0
+LegListingOfPairs =
+    (arc : Leg) (v : List Float) (closed : Bool) (p m : ℕ) (l : Listing) → legCrossings arc v closed p m ≡ answered l
+    → ListedOf (legPairs arc v closed) itself l
+
+-- of a string with itself the points are written normalised
+abbrev pub SelfListingOfPairs : Type 0
+SelfListingOfPairs = (v : List Float) (p m : ℕ) (l : Listing) → selfCrossings v p m ≡ answered l → ListedOf (selfPairs v false) normalizedUnlessShort l
