@@ -1,10 +1,11 @@
 //! Times of the calls that write a string and its buoys beside the published Rust, which has no buoys. It has no backward walk and no
 //! restart either: a copy of the vertices reversed or rotated stands for them.
-use crate::bench::{Times, string};
+use crate::bench_inputs::{Times, string};
 use crate::calls::c;
-use crate::expected::{flat, stored, triples};
 use crate::inputs::between;
+use crate::lists::{flat, triples};
 use crate::random::{Random, Xyz};
+use crate::stored::stored;
 use crate::timing::by_turns;
 use sphersgeo::arcstring::{ArcString, split_arcstring_at_points};
 use sphersgeo::sphericalpoint::{MultiSphericalPoint, SphericalPoint};

@@ -1,9 +1,11 @@
 //! Random requests of the calls that carry buoys, with strings on which each call moves vertices: ones that close when they are built, that
 //! lose vertices in one round or in several, points put in on several legs, several cuts, pieces that close. Each with every room for the
 //! buoys that decides something, and with buoys that are not as many as points.
+use crate::answers::Answer;
 use crate::edits::can_be_split;
-use crate::expected::{self, Answer, flat, triples};
+use crate::expected;
 use crate::inputs::{Inputs, between, within_range};
+use crate::lists::{flat, triples};
 use crate::numbered;
 use crate::random::Xyz;
 use crate::request::{Call, Places, Request};

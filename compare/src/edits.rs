@@ -2,8 +2,9 @@
 //! vertices that lie along the string, points beyond the end of a leg, vertices as points, legs of length zero, results around 1,024
 //! points.
 use crate::calls;
-use crate::expected::{self, flat, triples};
+use crate::expected;
 use crate::inputs::{Inputs, between, within_range};
+use crate::lists::{flat, triples};
 use crate::request::{Call, Request};
 use crate::strings::send;
 use crate::tally::Tally;

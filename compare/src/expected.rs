@@ -1,42 +1,19 @@
 //! What each call is to answer: the refusals from `table`, the results from the published Rust, and from both what every place that
 //! was lent is to hold. The published listings say which points are kept; the classes are worked out in `classes`, the buoys that go with
 //! a string's vertices in `numbered`.
+use crate::answers::{Answer, Expected, string, verdict, vertices};
 use crate::calls::{BLANK, BLANK_BUOY, BLANK_BYTE, BLANK_NUMBER, Left, bits};
 use crate::classes::{self, Leg, legs};
 use crate::expected_edit as edit;
+use crate::lists::{flat, triples};
 use crate::numbered::{self, Vertex};
 use crate::random::Xyz;
-use crate::request::{Call, Places, Request};
+use crate::request::{Call, Request};
+use crate::stored::{both, stored};
 use crate::table;
 use sphersgeo::arcstring::{ArcString, arc_crossings_with_arcstring, arcs_crossing, point_is_along_arcstring, points_are_on_same_side, xyzs_turn_orientations};
 use sphersgeo::geometry::GeometricRelationships;
 use sphersgeo::sphericalpoint as published;
-use sphersgeo::sphericalpoint::MultiSphericalPoint;
-
-/// A finished answer, before any look at the room for it: the single numbers before those of a buffer.
-#[derive(Default)]
-pub struct Answer {
-    pub floats: Vec<f64>,
-    pub buoys: Vec<u32>,
-    pub bytes: Vec<u8>,
-    pub numbers: Vec<u64>,
-}
-
-impl Answer {
-    /// how long each buffer of a call has to be for it
-    pub fn needed(&self, call: Call) -> Places {
-        let fixed = call.fixed();
-        call.buffers(Places {
-            floats: self.floats.len().saturating_sub(fixed.floats),
-            buoys: self.buoys.len(),
-            bytes: self.bytes.len().saturating_sub(fixed.bytes),
-            numbers: self.numbers.len().saturating_sub(fixed.numbers),
-        })
-    }
-}
-
-/// an answer, or the number of a refusal
-pub type Expected = Result<Answer, u32>;
 
 pub fn result(r: &Request) -> Expected {
     match table::refusal(r) {
@@ -70,40 +47,6 @@ pub fn left(r: &Request, expected: &Expected) -> Left {
     left.bytes[..answer.bytes.len()].copy_from_slice(&answer.bytes);
     left.numbers[..answer.numbers.len()].copy_from_slice(&answer.numbers);
     left
-}
-
-// ---- lists, points, strings
-
-pub fn flat(points: &[Xyz]) -> Vec<f64> {
-    points.iter().flatten().copied().collect()
-}
-
-pub fn triples(v: &[f64]) -> Vec<Xyz> {
-    v.chunks_exact(3).map(|c| [c[0], c[1], c[2]]).collect()
-}
-
-/// a stored string, its fields as given
-pub fn stored(v: &[f64], near: &[f64], closed: bool) -> ArcString {
-    let kdtree = kiddo::ImmutableKdTree::new_from_slice(&triples(near)).unwrap();
-    ArcString { points: MultiSphericalPoint { xyzs: triples(v), kdtree }, closed }
-}
-
-/// the first and the second string of a request, each with its near list, which is empty for a call that is lent none
-pub fn both(r: &Request) -> (ArcString, ArcString) {
-    let [a, a_near, b, b_near] = &r.lists;
-    (stored(a, a_near, r.flags[0] != 0), stored(b, b_near, r.flags[1] != 0))
-}
-
-pub fn verdict(yes: bool) -> Answer {
-    Answer { bytes: vec![yes as u8], ..Answer::default() }
-}
-
-pub fn vertices(points: &[Xyz]) -> Answer {
-    Answer { floats: flat(points), numbers: vec![points.len() as u64], ..Answer::default() }
-}
-
-pub fn string(v: &[Vertex]) -> Answer {
-    Answer { buoys: v.iter().map(|v| v.1).collect(), ..vertices(&numbered::xyzs(v)) }
 }
 
 // ---- what the published Rust gives for accepted lists

@@ -2,11 +2,13 @@
 //! panics as document 01's 5 and 6, and the 3 of a result, which the published Rust does not have: the points are given a few more at
 //! a time, and the first result over 1,024 points ends it, since no cut and no insertion makes a result shorter. The buoys come with the
 //! vertices of `numbered`, which must be the published ones.
+use crate::answers::{Answer, Expected, string, verdict};
 use crate::calls::bits;
-use crate::expected::{Answer, Expected, both, flat, stored, string, triples, verdict};
+use crate::lists::{flat, triples};
 use crate::numbered::{self, Numbered, Vertex};
 use crate::random::Xyz;
 use crate::request::{Call, Request};
+use crate::stored::{both, stored};
 use sphersgeo::arcstring::{ArcString, split_arc_at_points, split_arcstring_at_points};
 use sphersgeo::geometry::GeometricRelationships;
 use sphersgeo::sphericalpoint::SphericalPoint;

@@ -1,6 +1,7 @@
 //! Random lists, flags, positions, buoys and buffers: strings of every length around each boundary, damaged ones, courses with points
 //! along their legs, near lists that differ, buoys that are not as many as points, and rooms around the length of the answer.
-use crate::expected::{Expected, flat, triples};
+use crate::answers::Expected;
+use crate::lists::{flat, triples};
 use crate::random::{Points, Xyz, clamp};
 use crate::request::{Places, Request};
 

@@ -1,6 +1,6 @@
 //! Which branch of a call an answer took: the summary counts by these, and each is at most 48 bytes.
+use crate::answers::Expected;
 use crate::calls::{BLANK, Left, bits};
-use crate::expected::Expected;
 use crate::request::{Call, Places, Request};
 
 pub fn kind(r: &Request, expected: &Expected, left: &Left) -> String {

@@ -1,7 +1,9 @@
 //! Compares the proved libraries with the published Rust and with the processor, bit for bit (any NaN with any NaN), and the vertices that
 //! they build with unit length.
 //! A line for each kind of case says how often it came; a difference prints its request and ends the run with 1.
+mod answers;
 mod bench;
+mod bench_inputs;
 mod bench_strings;
 mod buoys;
 mod calls;
@@ -13,6 +15,7 @@ mod expected_edit;
 mod found;
 mod inputs;
 mod kinds;
+mod lists;
 mod narrow;
 mod numbered;
 mod plane;
@@ -23,6 +26,7 @@ mod roots;
 mod s2;
 mod sample;
 mod small;
+mod stored;
 mod strings;
 mod table;
 mod tally;

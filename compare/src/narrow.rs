@@ -2,8 +2,9 @@
 //! both signs, subnormal values and products that vanish, rows of legs of which none, some or all need a second look, strings around 64
 //! and 1,024 legs, and rooms at and next to the kept points and all pairs.
 use crate::classes::{legs, sides};
-use crate::expected::{self, flat, triples};
+use crate::expected;
 use crate::inputs::{Inputs, between, unit, within_range};
+use crate::lists::{flat, triples};
 use crate::random::Xyz;
 use crate::request::{Call, Places, Request};
 use crate::small::send;

@@ -1,7 +1,7 @@
 //! The published build, simplify, insert_vertices and split over vertices that carry their buoys, as document 02 asks: each number goes
 //! where its vertex goes, and a point put in or cut at brings its own. The tests of points and the normalising are the published ones;
 //! what else is done is written down again, step by step, and `expected_edit` holds the vertices to the published result.
-use crate::expected::triples;
+use crate::lists::triples;
 use crate::random::Xyz;
 use sphersgeo::arcstring::ArcString;
 use sphersgeo::sphericalpoint::{MultiSphericalPoint, xyzs_coplanar};

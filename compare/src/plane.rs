@@ -3,8 +3,8 @@
 //! beside the ends. As a test of any floats in the vector layer, of points in range, and by way of strings: points on them, strings
 //! simplified around the edge of the short lists, points put in and cut at.
 use crate::edits::can_be_split;
-use crate::expected::flat;
 use crate::inputs::{Inputs, between, unit, within_range};
+use crate::lists::flat;
 use crate::random::Xyz;
 use crate::request::{Call, Request};
 use crate::strings;

@@ -1,6 +1,6 @@
 //! Google's S2 beside the counting call: the same vertices, every pair of legs. S2's `CrossingSign` tells only whether two legs cross inside
 //! both, by exact arithmetic where floats do not decide; it gives no point and no class, and takes unit points.
-use crate::bench::{LEGS, Room, SIZES, Two};
+use crate::bench_inputs::{LEGS, Room, SIZES, Two};
 use crate::timing::by_turns;
 use std::hint::black_box;
 

@@ -1,5 +1,6 @@
 //! Short requests, every one there is over small sets of coordinates and points.
-use crate::expected::{self, flat};
+use crate::expected;
+use crate::lists::flat;
 use crate::random::Xyz;
 use crate::request::{Call, Places, Request};
 use crate::tally::Tally;

@@ -1,7 +1,8 @@
 //! Random requests of the calls that build, walk, cross and compare strings.
 use crate::calls;
-use crate::expected::{self, flat, triples};
+use crate::expected;
 use crate::inputs::Inputs;
+use crate::lists::{flat, triples};
 use crate::numbered::vertices;
 use crate::request::{Call, Places, Request};
 use crate::tally::Tally;

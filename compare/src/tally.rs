@@ -1,6 +1,7 @@
 //! Compares, counts by kind of case, and shows a difference so that it can be run again.
+use crate::answers::Expected;
 use crate::calls;
-use crate::expected::{self, Expected};
+use crate::expected;
 use crate::kinds::kind;
 use crate::request::Request;
 use crate::sample::Sample;

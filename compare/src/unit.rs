@@ -3,7 +3,7 @@
 //! 2 to the power -49 away from 1. A shorter point stays as it is. The largest deviations found are shown with their points.
 use crate::calls;
 use crate::exact::Deviation;
-use crate::expected::{flat, triples};
+use crate::lists::{flat, triples};
 use crate::random::{Random, Xyz};
 use crate::request::{Call, Request};
 use crate::tally::Tally;

@@ -1,4 +1,5 @@
 -- Laws of flat lists: points to floats and back, lengths, parts, and the point that stands at a position. Assumes nothing.
+use mathlib.Core.Bool.{true}
 use mathlib.Core.Path.{_≡_, refl, sym, ap, ap₂, _∙_}
 use mathlib.Core.List.{List, [], _∷_, _++_, append-assoc}
 use Prim.Native.Nat.{ℕ, zero, suc, _+_, _*_, _/_, _≤_, _<_}
@@ -9,6 +10,8 @@ use lib.Seq.{drop-nil, drop-cons, take-nil, take-suc, getD-drop}
 use lib.Ieee.{Float, nan}
 use Rattle.sphericalpoint.specs.declared.SphericalPoint.{SphericalPoint}
 use Rattle.arcstring.specs.Points.{point, points, flat, pointAt, noPoint}
+use Rattle.arcstring_check.specs.Check.{mostPoints, allInRange, storedCheck}
+use Rattle.arcstring_check.proofs.Checks.{by-range, stored-not-empty}
 
 triple : (k : ℕ) → 3 * suc k ≡ suc (suc (suc (3 * k)))
 triple k = omega arith
@@ -109,10 +112,27 @@ take-next v k h =
     let e : 3 * (k + 1) ≡ suc (suc (suc (3 * k))) = omega arith in
     let e1 : 3 * k + 1 ≡ suc (3 * k) = omega arith in
     let e2 : 3 * k + 2 ≡ suc (suc (3 * k)) = omega arith in
-    simp (e, e1, e2, take-suc v (suc (suc (3 * k))) nan (omega arith), take-suc v (suc (3 * k)) nan (omega arith), take-suc v (3 * k) nan (omega arith), append-assoc)
+    simp (
+      e,
+      e1,
+      e2,
+      take-suc v (suc (suc (3 * k))) nan (omega arith),
+      take-suc v (suc (3 * k)) nan (omega arith),
+      take-suc v (3 * k) nan
+          (omega arith),
+      append-assoc,
+    )
 
 -- the points from k on begin with point k
 pub points-next : (n : ℕ) (v : List Float) (k : ℕ) → length v ≡ 3 * n → k < n → drop k (points v) ≡ pointAt v k ∷ drop (k + 1) (points v)
 points-next n v k whole h =
     drop-cons (points v) k noPoint (omega (arith, length-points n v whole))
     ∙ ap₂ _∷_ (point-at v k noPoint (omega arith)) (ap (λ (j : ℕ). drop j (points v)) (sym (add-one k)))
+
+-- ---- an accepted list
+
+-- points in range, as many as a string may have, are such a list
+pub points-stored : (ps : List SphericalPoint) → 1 ≤ length ps → length ps ≤ mostPoints → allInRange (flat ps) ≡ true → storedCheck (flat ps) ≡ 0
+points-stored ps some few range =
+    let l = length-flat ps in
+    sym (by-range 0 (flat ps) (omega arith) refl (omega arith) true range ∙ stored-not-empty (flat ps) (λ e. omega arith))

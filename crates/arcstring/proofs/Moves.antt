@@ -124,7 +124,8 @@ module _ (f : SphericalPoint → SphericalPoint) where
       before ∙ ap (λ (k : ℕ). splice old 0 (flat (map f (points (take (3 * k) v))))) end ∙ splice-front old (3 * n) _ (length-mapped n v known)
 
   -- of a list whose first floats w have been written
-  pub map-written : (m : ℕ) (old mid last w : List Float) → length w ≡ 3 * m → mid ≡ w ++ drop (3 * m) old → last ≡ flat (map f (points (take (3 * m) mid))) ++ drop (3 * m) mid →
+  pub map-written : (m : ℕ) (old mid last w : List Float) → length w ≡ 3 * m → mid ≡ w ++ drop (3 * m) old
+      → last ≡ flat (map f (points (take (3 * m) mid))) ++ drop (3 * m) mid →
       last ≡ flat (map f (points w)) ++ drop (3 * m) old
   map-written m old mid last w h before after =
       let t : take (3 * m) mid ≡ w = ap (take (3 * m)) before ∙ take-at w (drop (3 * m) old) (3 * m) h in

@@ -1,7 +1,7 @@
 -- Vertices with their numbers: what moves a list moves what is made of it, and what numbered points are without their numbers, and the numbers alone.
 -- Assumes nothing.
 use mathlib.Core.Path.{_≡_, refl, sym, ap, ap₂, _∙_}
-use mathlib.Core.Bool.{Bool, true, false, _&&_}
+use mathlib.Core.Bool.{Bool, true, false}
 use mathlib.Core.List.{List, [], _∷_, _++_, map, map-map, map-append, reverse, reverse-cons}
 use Prim.Native.Nat.{ℕ, zero, suc, _+_, _-_, _*_, _≤_, _<_}
 use native.Mathlib.Omega.{arith}
@@ -11,11 +11,9 @@ use lib.Seq.{length-take-le, take-all, drop-cons, getD-take, getD-drop, getD-app
 use borrow.Author.Tests.{ltb-true, ltb-false}
 use lib.Ieee.{Float}
 use Rattle.sphericalpoint.specs.declared.SphericalPoint.{SphericalPoint}
-use Rattle.arcstring.specs.Answer.{pick}
-use Rattle.arcstring.specs.declared.vertex.Vertex.{Vertex}
+use Rattle.arcstring.specs.declared.inner.vertex.Vertex.{Vertex}
 use Rattle.arcstring.specs.Points.{numbered, placeOf, placesOf, buoysOf, points, pointAt}
 use Rattle.arcstring.specs.Positions.{Within, positionsFrom, vertexAt}
-use Rattle.arcstring.specs.Walk.{restarted}
 use Rattle.arcstring.specs.Splice.{splice}
 use Rattle.arcstring.proofs.Flat.{points-next, points-append, length-points, take-points, drop-points}
 
@@ -38,16 +36,6 @@ module _ {A B : Type 0} (f : A → B) where
       ap (map f) (reverse-cons x l) ∙ map-append f (reverse l) (x ∷ [])
       ∙ ap (λ (m : List B). m ++ (f x ∷ [])) (map-reverse l)
       ∙ sym (reverse-cons (f x) (map f l))
-
-  by-start : (b : Bool) (k : ℕ) (l : List A) → map f (pick b (drop k l ++ take k l) l) ≡ pick b (drop k (map f l) ++ take k (map f l)) (map f l)
-  by-start true k l = map-append f (drop k l) (take k l) ∙ ap₂ (λ (a b : List B). a ++ b) (map-drop k l) (map-take k l)
-  by-start false k l = refl
-
-  pub map-restarted : (l : List A) (closed : Bool) (k : ℕ) → map f (restarted l closed k) ≡ restarted (map f l) closed k
-  unfolding restarted
-  map-restarted l closed k =
-      by-start (closed && ltb k (length l)) k l
-      ∙ ap (λ (n : ℕ). pick (closed && ltb k n) (drop k (map f l) ++ take k (map f l)) (map f l)) (sym (length-map l f))
 
 -- ---- points and numbers side by side
 

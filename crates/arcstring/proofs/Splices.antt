@@ -39,15 +39,18 @@ module _ {A : Type 0} where
       (take-at (take at old ++ new) _ (at + length new) (length-append (take at old) new ∙ ap (λ (n : ℕ). n + length new) (length-take-le at old h)))
 
   -- k elements past the part and on
-  pub drop-past-splice : (old : List A) (at : ℕ) (new : List A) (k : ℕ) → at ≤ length old → drop (at + length new + k) (splice old at new) ≡ drop (at + length new + k) old
+  pub drop-past-splice : (old : List A) (at : ℕ) (new : List A) (k : ℕ) → at ≤ length old → drop (at + length new + k) (splice old at new) ≡ drop
+      (at + length new + k) old
   unfolding splice
   drop-past-splice old at new k h =
       let t : length (take at old ++ new) ≡ at + length new = length-append (take at old) new ∙ ap (λ (n : ℕ). n + length new) (length-take-le at old h) in
       rw (← append-assoc (take at old) new (drop (at + length new) old))
-      (ap (λ (n : ℕ). drop (n + k) ((take at old ++ new) ++ drop (at + length new) old)) (sym t) ∙ drop-append-add (take at old ++ new) _ k ∙ drop-drop k (at + length new) old)
+      (ap (λ (n : ℕ). drop (n + k) ((take at old ++ new) ++ drop (at + length new) old)) (sym t) ∙ drop-append-add (take at old ++ new) _ k
+      ∙ drop-drop k (at + length new) old)
 
   -- a part written right after another is one part
-  joined : (old mid : List A) (at : ℕ) (xs ys : List A) → take (at + length xs) mid ≡ take at old ++ xs → drop (at + length xs + length ys) mid ≡ drop (at + length xs + length ys) old →
+  joined : (old mid : List A) (at : ℕ) (xs ys : List A) → take (at + length xs) mid ≡ take at old ++ xs
+      → drop (at + length xs + length ys) mid ≡ drop (at + length xs + length ys) old →
       splice mid (at + length xs) ys ≡ splice old at (xs ++ ys)
   unfolding splice
   joined old mid at xs ys t d =
@@ -57,10 +60,12 @@ module _ {A : Type 0} where
   pub splice-next : (old : List A) (at : ℕ) (xs : List A) (next : ℕ) (ys : List A) → at ≤ length old → next ≡ at + length xs →
       splice (splice old at xs) next ys ≡ splice old at (xs ++ ys)
   splice-next old at xs next ys h e =
-      ap (λ (n : ℕ). splice (splice old at xs) n ys) e ∙ joined old (splice old at xs) at xs ys (take-past-splice old at xs h) (drop-past-splice old at xs (length ys) h)
+      ap (λ (n : ℕ). splice (splice old at xs) n ys) e ∙ joined old (splice old at xs) at xs ys (take-past-splice old at xs h)
+      (drop-past-splice old at xs (length ys) h)
 
   -- the same of the lists that two calls leave
-  pub spliced-next : (old mid last : List A) (at : ℕ) (xs : List A) (next : ℕ) (ys : List A) → mid ≡ splice old at xs → last ≡ splice mid next ys → at ≤ length old → next ≡ at + length xs →
+  pub spliced-next : (old mid last : List A) (at : ℕ) (xs : List A) (next : ℕ) (ys : List A) → mid ≡ splice old at xs → last ≡ splice mid next ys
+      → at ≤ length old → next ≡ at + length xs →
       last ≡ splice old at (xs ++ ys)
   spliced-next old mid last at xs next ys first second h e =
       second ∙ ap (λ (l : List A). splice l next ys) first ∙ splice-next old at xs next ys h e

@@ -1,26 +1,24 @@
 -- Geometry never depends on the numbers: a lent call without the numbers is the same call over points, and where the numbers are as many and their buffer is
--- long enough, it is the call that is lent none. The walks: without the numbers, and the numbers alone. Assumes nothing.
+-- long enough, it is the call that is lent none. Assumes nothing.
 use mathlib.Core.Path.{_≡_, refl, sym, ap, ap₂, _∙_}
 use mathlib.Core.Bool.{Bool, true, false, not}
-use mathlib.Core.List.{List, map, reverse}
+use mathlib.Core.List.{List, map}
 use Prim.Native.Nat.{ℕ, _*_, _/_, _≤_}
 use lib.Dec.{eqb, ltb}
 use lib.ListN.{length, length-map}
 use lib.Ieee.{Float}
 use borrow.Author.Tests.{ltb-false}
 use native.Mathlib.Omega.{arith}
-use Rattle.sphericalpoint.specs.declared.SphericalPoint.{SphericalPoint}
-use Rattle.arcstring.specs.Answer.{Answer, answered, unlessRefused, mapAnswer, andThen, firstOf, numberIf}
-use Rattle.arcstring.specs.declared.vertex.Vertex.{Vertex}
-use Rattle.arcstring.specs.Points.{numbered, placeOf, placesOf, buoysOf, points}
-use Rattle.arcstring.specs.Check.{listCheck, buoysCheck, stringCheck, pointsCheck, roomCheck, roomsCheck, intoRoom, intoRooms, lent}
-use Rattle.arcstring.specs.Walk.{restarted, walkBack, restart}
-use Rattle.arcstring.specs.BuoyLaws.{BackWithout, RestartWithout, LentAlone, BackBuoys, RestartBuoys}
-use Rattle.arcstring.proofs.Answers.{map-unless, map-then, where-passed, then-same, first-alone}
-use Rattle.arcstring.proofs.Checks.{as-many-buoys, string-alone}
+use Rattle.arcstring_check.specs.Answer.{Answer, answered, unlessRefused, mapAnswer, andThen, firstOf, numberIf}
+use Rattle.arcstring.specs.declared.inner.vertex.Vertex.{Vertex}
+use Rattle.arcstring.specs.Points.{numbered, placesOf, buoysOf, points}
+use Rattle.arcstring_check.specs.Check.{listCheck, buoysCheck, stringCheck, pointsCheck, roomCheck, roomsCheck, intoRoom, intoRooms, lent}
+use Rattle.arcstring.specs.BuoyLaws.{LentAlone}
+use Rattle.arcstring_check.proofs.Answers.{map-unless, map-then, where-passed, then-same, first-alone}
+use Rattle.arcstring_check.proofs.Checks.{as-many-buoys, string-alone}
 use Rattle.arcstring.proofs.Flat.{count-points}
-use Rattle.arcstring.proofs.Rooms.{room-enough}
-use Rattle.arcstring.proofs.Numbered.{map-reverse, map-restarted, all-places, all-buoys}
+use Rattle.arcstring_check.proofs.Rooms.{room-enough}
+use Rattle.arcstring.proofs.Numbered.{all-places, all-buoys}
 
 -- ---- what is made of each vertex, before a call or after it
 
@@ -82,9 +80,11 @@ lent-alone A v bs room buoyRoom a same enough =
     ap₂ unlessRefused (string-alone v bs same)
     (then-same a (intoRooms room buoyRoom) (intoRoom room) (λ xs. ap (λ (n : ℕ). unlessRefused n (answered xs)) (rooms-alone (length xs) room buoyRoom enough)))
 
--- ---- backwards, and restarted
+-- ---- an accepted string, without the numbers, and the numbers alone
 
--- an accepted string's vertices, without the numbers, and the numbers alone
+abbrev pub buoyOf : Vertex → ℕ
+buoyOf x = x .buoy
+
 module _ (v : List Float) (bs : List ℕ) (accepted : stringCheck v bs ≡ 0) where
   as-many : length bs ≡ length (points v)
   as-many = as-many-buoys v bs accepted ∙ sym (count-points v)
@@ -94,37 +94,3 @@ module _ (v : List Float) (bs : List ℕ) (accepted : stringCheck v bs ≡ 0) wh
 
   pub lent-buoys : buoysOf (numbered (points v) bs) ≡ bs
   lent-buoys = all-buoys (points v) bs as-many
-
-  pub back-places : placesOf (reverse (numbered (points v) bs)) ≡ reverse (points v)
-  back-places = map-reverse placeOf (numbered (points v) bs) ∙ ap reverse lent-places
-
-  pub restart-places : (closed : Bool) (k : ℕ) → placesOf (restarted (numbered (points v) bs) closed k) ≡ restarted (points v) closed k
-  restart-places closed k = map-restarted placeOf (numbered (points v) bs) closed k ∙ ap (λ (ps : List SphericalPoint). restarted ps closed k) lent-places
-
-pub back-without : BackWithout
-unfolding walkBack
-back-without v bs room buoyRoom =
-    map-lent placeOf v bs room buoyRoom (answered (reverse (numbered (points v) bs)))
-    ∙ lent-where v bs room buoyRoom _ _ (λ h. ap answered (back-places v bs h))
-
-pub restart-without : RestartWithout
-unfolding restart
-restart-without v bs closed k room buoyRoom =
-    map-lent placeOf v bs room buoyRoom (answered (restarted (numbered (points v) bs) closed k))
-    ∙ lent-where v bs room buoyRoom _ _ (λ h. ap answered (restart-places v bs h closed k))
-
-abbrev pub buoyOf : Vertex → ℕ
-buoyOf x = x .buoy
-
-pub back-buoys : BackBuoys
-unfolding walkBack
-back-buoys v bs room buoyRoom =
-    map-lent buoyOf v bs room buoyRoom (answered (reverse (numbered (points v) bs)))
-    ∙ lent-where v bs room buoyRoom _ _ (λ h. ap answered (map-reverse buoyOf (numbered (points v) bs) ∙ ap reverse (lent-buoys v bs h)))
-
-pub restart-buoys : RestartBuoys
-unfolding restart
-restart-buoys v bs closed k room buoyRoom =
-    map-lent buoyOf v bs room buoyRoom (answered (restarted (numbered (points v) bs) closed k))
-    ∙ lent-where v bs room buoyRoom _ _
-    (λ h. ap answered (map-restarted buoyOf (numbered (points v) bs) closed k ∙ ap (λ (cs : List ℕ). restarted cs closed k) (lent-buoys v bs h)))

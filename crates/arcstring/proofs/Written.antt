@@ -8,12 +8,15 @@ use lib.ListN.{length, drop, length-map}
 use lib.Dec.{ltb}
 use borrow.Author.Tests.{ltb-false}
 use lib.Ieee.{Float}
+use Rattle.arcstring.specs.Work.{heldCount}
 use Rattle.sphericalpoint.specs.declared.SphericalPoint.{SphericalPoint}
-use Rattle.arcstring.specs.Answer.{Answer, refused, answered, unlessRefused, firstOf, numberIf, leaves, pick}
-use Rattle.arcstring.specs.declared.vertex.Vertex.{Vertex}
+use Rattle.arcstring_check.specs.declared.check.Written.{Written}
+use Rattle.arcstring_check.specs.declared.check.Written.the-variants as W
+use Rattle.arcstring_check.specs.Answer.{Answer, refused, answered, unlessRefused, firstOf, numberIf, leaves, pick}
+use Rattle.arcstring.specs.declared.inner.vertex.Vertex.{Vertex}
 use Rattle.arcstring.specs.Points.{placesOf, buoysOf, placeOf, flat}
-use Rattle.arcstring.specs.Check.{roomCheck, roomsCheck, intoRooms}
-use Rattle.arcstring.specs.Walk.{writtenResult, writtenFloats, withoutBuoys, writtenBuoys}
+use Rattle.arcstring_check.specs.Check.{roomCheck, roomsCheck, intoRooms}
+use Rattle.arcstring.specs.Written.{writtenResult, writtenFloats, withoutBuoys, writtenBuoys}
 use Rattle.arcstring.proofs.Flat.{length-flat}
 
 module _ (old : List Float) (oldBuoys : List ℕ) (a : Answer (List Vertex)) where
@@ -81,3 +84,7 @@ both-fit room buoyRoom n = go (ltb room (3 * n)) (ltb buoyRoom n) refl refl
     go true b p q h = absurd (let z : _≡_ {A = ℕ} 0 1 = cc in omega arith)
     go false true p q h = absurd (let z : _≡_ {A = ℕ} 0 1 = cc in omega arith)
     go false false p q h = (ltb-false room (3 * n) p, ltb-false buoyRoom n q)
+
+-- how many are held, where the answer is known
+pub held-at-most : (w : Written) (n most : ℕ) → w ≡ W.Vertices n → heldCount w ≤ most → n ≤ most
+held-at-most w n most told h = omega (arith, ap heldCount told)

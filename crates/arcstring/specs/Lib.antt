@@ -1,12 +1,10 @@
--- The definitions of lists and strings, refusals, building and walking. `Splice`, `Positions` and `Work` serve inner contracts alone.
-pub mod Answer
+-- The definitions of lists and strings, of legs, of calls on single points and of what is written. `Splice`, `Positions` and `Work` serve inner contracts
+-- alone.
 pub mod Points
 pub mod Splice
 pub mod Positions
-pub mod Check
 pub mod Point
-pub mod Build
-pub mod BuildLaws
-pub mod Walk
+pub mod Leg
+pub mod Written
 pub mod BuoyLaws
 pub mod Work

@@ -3,12 +3,12 @@ use mathlib.Core.Bool.{Bool}
 use Rattle.sphericalpoint.specs.declared.SphericalPoint.{SphericalPoint}
 use Rattle.sphericalpoint.specs.Vector.{xyzEq}
 use Rattle.sphericalpoint.specs.Point.{pointFrom, xyzsCoplanar}
-use Rattle.arcstring.specs.declared.check.Decided.{Decided}
-use Rattle.arcstring.specs.declared.check.Decided.the-variants as D
+use Rattle.arcstring_check.specs.declared.check.Decided.{Decided}
+use Rattle.arcstring_check.specs.declared.check.Decided.the-variants as D
 use Rattle.arcstring.specs.declared.point.Pointed.{Pointed}
 use Rattle.arcstring.specs.declared.point.Pointed.the-variants as P
-use Rattle.arcstring.specs.Answer.{Answer, refused, answered, unlessRefused, refusalNumber}
-use Rattle.arcstring.specs.Check.{pointCheck}
+use Rattle.arcstring_check.specs.Answer.{Answer, refused, answered, unlessRefused, refusalNumber}
+use Rattle.arcstring_check.specs.Check.{pointCheck}
 
 unfoldable pub equalPoints : SphericalPoint → SphericalPoint → Answer Bool
 equalPoints a b = unlessRefused (pointCheck a) (unlessRefused (pointCheck b) (answered (xyzEq a b)))

@@ -5,7 +5,7 @@ use Prim.Native.Nat.{ℕ, _+_, _*_}
 use lib.ListN.{getD}
 use lib.Ieee.{Float, nan}
 use Rattle.sphericalpoint.specs.declared.SphericalPoint.{SphericalPoint}
-use Rattle.arcstring.specs.declared.vertex.Vertex.{Vertex}
+use Rattle.arcstring.specs.declared.inner.vertex.Vertex.{Vertex}
 
 abbrev pub point : Float → Float → Float → SphericalPoint
 point x y z = record { x = x; y = y; z = z }

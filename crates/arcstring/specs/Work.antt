@@ -4,10 +4,14 @@ use Prim.Native.Nat.{ℕ, _*_}
 use lib.ListN.{take}
 use lib.Ieee.{Float}
 use Rattle.sphericalpoint.specs.declared.SphericalPoint.{SphericalPoint}
-use Rattle.arcstring.specs.declared.walk.Written.{Written}
-use Rattle.arcstring.specs.declared.walk.Written.the-variants as W
-use Rattle.arcstring.specs.Answer.{Answer, refused, answered, refusalNumber}
+use Rattle.arcstring_check.specs.declared.check.Written.{Written}
+use Rattle.arcstring_check.specs.declared.check.Written.the-variants as W
+use Rattle.arcstring_check.specs.Answer.{Answer, refused, answered, refusalNumber}
 use Rattle.arcstring.specs.Points.{points}
+
+-- how many points a short string has at most
+abbrev pub shortPoints : ℕ
+shortPoints = 64
 
 -- the first n points of a list
 unfoldable pub firstOfList : ℕ → List Float → List SphericalPoint

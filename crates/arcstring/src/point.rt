@@ -1,10 +1,10 @@
 // The calls on single points: the vector layer's, after the check of each point (4).
 ghost use mathlib.Core.Path.{_≡_};
 ghost use Rattle.arcstring.specs.Point.{equalPoints, coplanarPoints, builtPoint, decidedAnswer, pointedAnswer};
-use crate::check;
-use crate::check::Checked;
-use crate::check::Decided;
-use crate::check::Refusal;
+use arcstring_check::check::Checked;
+use arcstring_check::check::Decided;
+use arcstring_check::check::Refusal;
+use arcstring_check::inner::checks;
 use sphericalpoint::SphericalPoint;
 
 // A point, or why there is none.
@@ -17,7 +17,7 @@ pub enum Pointed {
 pub fn xyz_eq(a: SphericalPoint, b: SphericalPoint) -> Decided
     ensures { λ r. ⌜ decidedAnswer r ≡ equalPoints a b ⌝ }
 {
-    let checked = check::first_of(check::check_point(a), check::check_point(b));
+    let checked = checks::first_of(checks::check_point(a), checks::check_point(b));
     match checked {
         Checked::Refused(e) => Decided::Refused(e),
         Checked::Accepted => Decided::Verdict(sphericalpoint::xyz_eq(a, b)),
@@ -28,9 +28,9 @@ pub fn xyz_eq(a: SphericalPoint, b: SphericalPoint) -> Decided
 pub fn xyzs_coplanar(a: SphericalPoint, b: SphericalPoint, c: SphericalPoint) -> Decided
     ensures { λ r. ⌜ decidedAnswer r ≡ coplanarPoints a b c ⌝ }
 {
-    let checked = check::first_of(
-        check::check_point(a),
-        check::first_of(check::check_point(b), check::check_point(c)),
+    let checked = checks::first_of(
+        checks::check_point(a),
+        checks::first_of(checks::check_point(b), checks::check_point(c)),
     );
     match checked {
         Checked::Refused(e) => Decided::Refused(e),
@@ -42,7 +42,7 @@ pub fn xyzs_coplanar(a: SphericalPoint, b: SphericalPoint, c: SphericalPoint) ->
 pub fn point_from(p: SphericalPoint) -> Pointed
     ensures { λ r. ⌜ pointedAnswer r ≡ builtPoint p ⌝ }
 {
-    let checked = check::check_point(p);
+    let checked = checks::check_point(p);
     match checked {
         Checked::Refused(e) => Pointed::Refused(e),
         Checked::Accepted => Pointed::Point(SphericalPoint::from(p.x, p.y, p.z)),

@@ -8,9 +8,8 @@ use lib.Ieee.{Float}
 use Rattle.sphericalpoint.specs.declared.SphericalPoint.{SphericalPoint}
 use Rattle.sphericalpoint.specs.Point.{xyzsCoplanar}
 use Rattle.arcstring.specs.Points.{points, pointAt}
-use Rattle.arcstring_crossing.specs.Crossing.{leg}
-use Rattle.arcstring_crossing.specs.Leg.{legs, legAt, legsFrom, legCount}
-use Rattle.arcstring_crossing.proofs.Legs.{next-leg, last-leg, legs-step, legs-none, legs-whole}
+use Rattle.arcstring.specs.Leg.{leg, legs, legAt, legsFrom, legCount}
+use Rattle.arcstring.proofs.Legs.{next-leg, last-leg, legs-step, legs-none, legs-whole}
 use Rattle.arcstring_along.specs.OnString.{nearSome, alongLeg, alongSomeLeg, alongString, stored}
 
 -- ---- one leg by its vertices: a the one at k, b the one that it ends at, r what the test of them says
@@ -51,7 +50,8 @@ module _ (p : SphericalPoint) (v near : List Float) (closed b : Bool) (known : b
   unfolding alongString
   along-near e = sym (ap (λ (t : Bool). t || alongSomeLeg p (legs (points v) closed)) (sym known ∙ e))
 
-  pub along-legs : (n l : ℕ) (r : Bool) → length v ≡ 3 * n → l ≡ legCount n closed → b ≡ false → r ≡ alongSomeLeg p (legsFrom v 0 l) → r ≡ alongString p (stored v near closed)
+  pub along-legs : (n l : ℕ) (r : Bool) → length v ≡ 3 * n → l ≡ legCount n closed → b ≡ false → r ≡ alongSomeLeg p (legsFrom v 0 l)
+      → r ≡ alongString p (stored v near closed)
   unfolding alongString
   along-legs n l r whole count e h =
       h

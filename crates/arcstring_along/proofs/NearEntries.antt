@@ -1,4 +1,5 @@
--- The walk over a near list, entry after entry: where the first near entry stands, and whether there is one. A list walked backwards has a near entry where the list has one. Assumes nothing.
+-- The walk over a near list, entry after entry: where the first near entry stands, and whether there is one. A list walked backwards has a near entry where the
+-- list has one. Assumes nothing.
 use mathlib.Core.Path.{_≡_, refl, sym, ap, ap₂, _∙_}
 use mathlib.Core.Bool.{Bool, true, false, _||_, or-assoc, or-comm, or-false}
 use mathlib.Core.List.{List, [], _∷_, _++_, reverse, reverse-cons}
@@ -9,11 +10,11 @@ use native.Mathlib.Omega.{arith}
 use lib.ListN.{length, drop, drop-of-length-le}
 use lib.Ieee.{Float}
 use Rattle.sphericalpoint.specs.declared.SphericalPoint.{SphericalPoint}
-use Rattle.arcstring.specs.Answer.{pick}
+use Rattle.arcstring_check.specs.Answer.{pick}
 use Rattle.arcstring.specs.Points.{points, pointAt}
 use Rattle.arcstring.proofs.Flat.{points-next, length-points}
-use Rattle.arcstring_along.specs.declared.on_string.Found.{Found}
-use Rattle.arcstring_along.specs.declared.on_string.Found.the-variants.{At, Nothing}
+use Rattle.arcstring_along.specs.declared.inner.along.Found.{Found}
+use Rattle.arcstring_along.specs.declared.inner.along.Found.the-variants.{At, Nothing}
 use Rattle.arcstring_along.specs.OnString.{isNear, next, firstNear, foundAt, isSome, nearSome}
 use Rattle.arcstring_along.specs.AlongLaws.{NearBackwards}
 
@@ -37,7 +38,8 @@ module _ (p : SphericalPoint) (v : List Float) (n : ℕ) (whole : length v ≡ 3
       → firstNear p (drop k (points v)) ≡ pick b (some 0) (next (firstNear p (drop (k + 1) (points v))))
   unfolding firstNear
   step q b h hq hb =
-      ap (firstNear p) (points-next n v k whole h) ∙ ap (λ (t : Bool). pick t (some 0) (next (firstNear p (drop (k + 1) (points v))))) (sym (hb ∙ ap (isNear p) hq))
+      ap (firstNear p) (points-next n v k whole h) ∙ ap (λ (t : Bool). pick t (some 0) (next (firstNear p (drop (k + 1) (points v)))))
+      (sym (hb ∙ ap (isNear p) hq))
 
   pub near-here : (q : SphericalPoint) (b : Bool) → k < n → q ≡ pointAt v k → b ≡ isNear p q → b ≡ true → some k ≡ from k (firstNear p (drop k (points v)))
   near-here q b h hq hb e = ap some (sym (add-zero k)) ∙ ap (from k) (sym (step q true h hq (sym e ∙ hb)))

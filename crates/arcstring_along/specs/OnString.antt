@@ -1,4 +1,5 @@
--- Whether a point is near an entry of the near list, and whether it is along a string, as document 01 reads `point_within_kdtree` and `point_is_along_arcstring`. Definitions only.
+-- Whether a point is near an entry of the near list, and whether it is along a string, as document 01 reads `point_within_kdtree` and
+-- `point_is_along_arcstring`. Definitions only.
 use mathlib.Core.Bool.{Bool, true, false, _||_}
 use mathlib.Core.List.{List, [], _∷_}
 use mathlib.Core.Option.{Option, none, some}
@@ -7,13 +8,12 @@ use lib.Ieee.{Float, lt}
 use Rattle.sphericalpoint.specs.declared.SphericalPoint.{SphericalPoint}
 use Rattle.sphericalpoint.specs.Vector.{equalityTolerance, xyzSub, xyzMul, xyzSum}
 use Rattle.sphericalpoint.specs.Point.{xyzsCoplanar}
-use Rattle.arcstring.specs.Answer.{Answer, answered, unlessRefused, pick}
+use Rattle.arcstring_check.specs.Answer.{Answer, answered, unlessRefused, pick}
 use Rattle.arcstring.specs.Points.{ArcString, points}
-use Rattle.arcstring.specs.Check.{storedCheck, pointCheck}
-use Rattle.arcstring_crossing.specs.Crossing.{Leg}
-use Rattle.arcstring_crossing.specs.Leg.{legs}
-use Rattle.arcstring_along.specs.declared.on_string.Found.{Found}
-use Rattle.arcstring_along.specs.declared.on_string.Found.the-variants.{At, Nothing}
+use Rattle.arcstring_check.specs.Check.{storedCheck, pointCheck}
+use Rattle.arcstring.specs.Leg.{Leg, legs}
+use Rattle.arcstring_along.specs.declared.inner.along.Found.{Found}
+use Rattle.arcstring_along.specs.declared.inner.along.Found.the-variants.{At, Nothing}
 
 -- (dx·dx + dy·dy) + dz·dz
 unfoldable pub squaredDistance : SphericalPoint → SphericalPoint → Float

@@ -6,26 +6,36 @@ use mathlib.Core.Option.{Option, none, some}
 use Prim.Native.Nat.{ℕ}
 use lib.ListN.{length}
 use lib.Ieee.{Float}
-use Rattle.arcstring.specs.Answer.{Answer, refused, answered, mapAnswer, leaves, flagNumber}
+use Rattle.arcstring_check.specs.Answer.{Answer, refused, answered, mapAnswer}
 use Rattle.arcstring.specs.Points.{StringOf}
-use Rattle.arcstring.specs.Build.{builtResult}
-use Rattle.arcstring_listing.specs.declared.listing.Counts.{Counts}
-use Rattle.arcstring_listing.specs.Listing.{Listing, listedResult, listedFloats, listedBytes}
+use Rattle.arcstring_build.specs.Build.{builtResult}
+use Rattle.arcstring_pair.specs.Pair.{Judged}
+use Rattle.arcstring_tally.specs.declared.counts.Counts.{Counts}
+use Rattle.arcstring_listing.specs.Listing.{Listing, listedResult}
 use Rattle.arcstring_split_leg.specs.SplitLeg.{pieceCount}
-use Rattle.arcstring_c.specs.Numbers.{answerNumber, leftIn, pieceNumber, piecesWritten, vertexCount, closedByte, keptCount, listingCounts, listedKept, listedCounts}
+use Rattle.arcstring_put.specs.Put.{answerNumber, leftIn, builtCount, builtFlag, listedKept, listedCounts, pieceNumber, classByte, keptByte, pointPlace}
+use Rattle.arcstring_c.specs.Numbers.{vertexCount, closedByte, keptCount, listingCounts, piecesWritten}
 
 -- ---- where the answer b is the answer a
 
 module _ {A : Type 0} {a b : Answer A} (h : b ≡ a) where
-  pub number-as : {n : ℕ} → n ≡ answerNumber b → n ≡ answerNumber a
+  number-as : {n : ℕ} → n ≡ answerNumber b → n ≡ answerNumber a
   number-as p = p ∙ ap answerNumber h
 
-  pub place-as : {B : Type 0} (part : A → B) (old : B) {x : B} → x ≡ leftIn part b old → x ≡ leftIn part a old
+  place-as : {B : Type 0} (part : A → B) (old : B) {x : B} → x ≡ leftIn part b old → x ≡ leftIn part a old
   place-as part old p = p ∙ ap (λ (y : Answer A). leftIn part y old) h
 
--- a verdict
-pub decided-as : (a : Answer Bool) {b : Answer Bool} {n y : ℕ} (old : ℕ) → b ≡ a → (n ≡ answerNumber b) × (y ≡ leftIn flagNumber b old) → (n ≡ answerNumber a) × (y ≡ leftIn flagNumber a old)
-decided-as a old h p = (number-as h (p .0), place-as h flagNumber old (p .1))
+-- a verdict, a point, counts
+pub one-as : {A B : Type 0} (part : A → B) (a : Answer A) {b : Answer A} {n : ℕ} {x : B} (old : B) → b ≡ a
+    → (n ≡ answerNumber b) × (x ≡ leftIn part b old) → (n ≡ answerNumber a) × (x ≡ leftIn part a old)
+one-as part a old h p = (number-as h (p .0), place-as h part old (p .1))
+
+-- a pair's class, mark and point
+pub pair-as : (a : Answer Judged) {b : Answer Judged} {n c k : ℕ} {x : List Float} (class kept : ℕ) (point : List Float) → b ≡ a
+    → (n ≡ answerNumber b) × (c ≡ leftIn classByte b class) × (k ≡ leftIn keptByte b kept) × (x ≡ leftIn (pointPlace point) b point)
+    → (n ≡ answerNumber a) × ((c ≡ leftIn classByte a class) × ((k ≡ leftIn keptByte a kept) × (x ≡ leftIn (pointPlace point) a point)))
+pair-as a class kept point h p =
+    (number-as h (p .0), (place-as h classByte class (p .1), (place-as h keptByte kept (p .2), place-as h (pointPlace point) point (p .3))))
 
 -- ---- where the answer b is a part of the answer a
 
@@ -45,34 +55,38 @@ module _ {A B : Type 0} (f : A → B) where
     place-of : {C : Type 0} (part : B → C) (old : C) {x : C} → x ≡ leftIn part b old → x ≡ leftIn (λ (y : A). part (f y)) a old
     place-of part old p = place-as h part old p ∙ part-place part a old
 
--- the vertices of a string
-abbrev builtPart : {A : Type 0} → StringOf A → ℕ × Bool
-builtPart s = (length (s .vertices), s .closed)
+-- how many points or floats were written
+pub written-as : {A : Type 0} (a : Answer (List A)) {b : Answer ℕ} {n k : ℕ} (old : ℕ) → b ≡ mapAnswer length a
+    → (n ≡ answerNumber b) × (k ≡ leftIn (λ (m : ℕ). m) b old) → (n ≡ answerNumber a) × (k ≡ leftIn length a old)
+written-as a old h p = (number-of length a h (p .0), place-of length a h (λ (m : ℕ). m) old (p .1))
 
-module _ {A : Type 0} (a : Answer (StringOf A)) {b : Answer (ℕ × Bool)} (h : b ≡ builtResult a) where
-  pub built-number : {n : ℕ} → n ≡ answerNumber b → n ≡ answerNumber a
-  built-number p = number-of builtPart a h p
+-- a built string's vertices and its flag
+module _ {A : Type 0} where
+  abbrev builtPart : StringOf A → ℕ × Bool
+  builtPart s = (length (s .vertices), s .closed)
 
-  pub built-count : (old : ℕ) {x : ℕ} → x ≡ leftIn (λ (r : ℕ × Bool). r .0) b old → x ≡ leftIn vertexCount a old
-  built-count old p = place-of builtPart a h (λ (r : ℕ × Bool). r .0) old p
+  pub built-count-as : (a : Answer (StringOf A)) {b : Answer (ℕ × Bool)} {n k : ℕ} (old : ℕ) → b ≡ builtResult a
+      → (n ≡ answerNumber b) × (k ≡ leftIn builtCount b old) → (n ≡ answerNumber a) × (k ≡ leftIn vertexCount a old)
+  built-count-as a old h p = (number-of builtPart a h (p .0), place-of builtPart a h builtCount old (p .1))
 
-  pub built-closed : (old : ℕ) {x : ℕ} → x ≡ leftIn (λ (r : ℕ × Bool). flagNumber (r .1)) b old → x ≡ leftIn closedByte a old
-  built-closed old p = place-of builtPart a h (λ (r : ℕ × Bool). flagNumber (r .1)) old p
+  pub built-as : (a : Answer (StringOf A)) {b : Answer (ℕ × Bool)} {n k c : ℕ} (count closed : ℕ) → b ≡ builtResult a
+      → (n ≡ answerNumber b) × (k ≡ leftIn builtCount b count) × (c ≡ leftIn builtFlag b closed)
+      → (n ≡ answerNumber a) × ((k ≡ leftIn vertexCount a count) × (c ≡ leftIn closedByte a closed))
+  built-as a count closed h p =
+      (number-of builtPart a h (p .0), (place-of builtPart a h builtCount count (p .1), place-of builtPart a h builtFlag closed (p .2)))
 
--- points or floats that were written
-module _ {A : Type 0} (a : Answer (List A)) {b : Answer ℕ} (h : b ≡ mapAnswer length a) where
-  pub written-number : {n : ℕ} → n ≡ answerNumber b → n ≡ answerNumber a
-  written-number p = number-of length a h p
+-- how many points a listing keeps, and its counts
+abbrev listedPart : Listing → ℕ × Counts
+listedPart l = (length (l .marks), l .counts)
 
-  pub written-count : (old : ℕ) {x : ℕ} → x ≡ leftIn (λ (n : ℕ). n) b old → x ≡ leftIn length a old
-  written-count old p = place-of length a h (λ (n : ℕ). n) old p
+pub listed-as : (a : Answer Listing) {b : Answer (ℕ × Counts)} {n k : ℕ} {q : List ℕ} (kept : ℕ) (counts : List ℕ) → b ≡ listedResult a
+    → (n ≡ answerNumber b) × (k ≡ leftIn listedKept b kept) × (q ≡ leftIn listedCounts b counts)
+    → (n ≡ answerNumber a) × ((k ≡ leftIn keptCount a kept) × (q ≡ leftIn listingCounts a counts))
+listed-as a kept counts h p =
+    (number-of listedPart a h (p .0), (place-of listedPart a h listedKept kept (p .1), place-of listedPart a h listedCounts counts (p .2)))
 
--- pieces that were written
-module _ {A : Type 0} (a : Answer (Option (List A))) {b : Answer (Option ℕ)} (h : b ≡ mapAnswer pieceCount a) where
-  pub pieces-number : {n : ℕ} → n ≡ answerNumber b → n ≡ answerNumber a
-  pieces-number p = number-of pieceCount a h p
-
-  -- how many of them, and 0 for uncut
+-- how many pieces, and 0 for uncut
+module _ {A : Type 0} where
   counted-pieces : (x : Option (List A)) → pieceNumber (pieceCount x) ≡ piecesWritten x
   counted-pieces none = refl
   counted-pieces (some l) = refl
@@ -81,16 +95,6 @@ module _ {A : Type 0} (a : Answer (Option (List A))) {b : Answer (Option ℕ)} (
   same-count (refused n) old = refl
   same-count (answered x) old = counted-pieces x
 
-  pub pieces-count : (old : ℕ) {x : ℕ} → x ≡ leftIn pieceNumber b old → x ≡ leftIn piecesWritten a old
-  pieces-count old p = place-of pieceCount a h pieceNumber old p ∙ same-count a old
-
--- a listing
-abbrev listedPart : Listing → ℕ × Counts
-listedPart l = (length (l .marks), l .counts)
-
-pub listed-as : (a : Answer Listing) {b : Answer (ℕ × Counts)} {v : List Float} {m q : List ℕ} {n k : ℕ} (points : List Float) (marks counts : List ℕ) (kept : ℕ)
-    → (b ≡ listedResult a) × ((v ≡ leaves (listedFloats a) points) × (m ≡ leaves (listedBytes a) marks))
-    → (n ≡ answerNumber b) × (k ≡ leftIn listedKept b kept) × (q ≡ leftIn listedCounts b counts)
-    → (n ≡ answerNumber a) × ((v ≡ leaves (listedFloats a) points) × ((m ≡ leaves (listedBytes a) marks) × ((k ≡ leftIn keptCount a kept) × (q ≡ leftIn listingCounts a counts))))
-listed-as a points marks counts kept w p =
-    (number-of listedPart a (w .0) (p .0), (w .1 .0, (w .1 .1, (place-of listedPart a (w .0) listedKept kept (p .1), place-of listedPart a (w .0) listedCounts counts (p .2)))))
+  pub pieces-as : (a : Answer (Option (List A))) {b : Answer (Option ℕ)} {n k : ℕ} (old : ℕ) → b ≡ mapAnswer pieceCount a
+      → (n ≡ answerNumber b) × (k ≡ leftIn pieceNumber b old) → (n ≡ answerNumber a) × (k ≡ leftIn piecesWritten a old)
+  pieces-as a old h p = (number-of pieceCount a h (p .0), place-of pieceCount a h pieceNumber old (p .1) ∙ same-count a old)

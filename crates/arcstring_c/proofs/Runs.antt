@@ -7,8 +7,8 @@ use native.Mathlib.Omega.{arith}
 use lib.Dec.{eqb, leb}
 use lib.ListN.{length, take, drop, length-take, length-drop}
 use lib.Ieee.{Float}
-use Rattle.arcstring.specs.Answer.{pick}
-use Rattle.arcstring.specs.Walk.{runOf}
+use Rattle.arcstring_check.specs.Answer.{pick}
+use Rattle.arcstring_walk.specs.Walk.{runOf}
 
 within : (t : Bool) (v : List Float) (k n : ℕ) → (length (pick t (take n (drop k v)) []) ≡ 0 → ⊥) → k < length v
 within true v k n h = omega (arith, length-take n (drop k v), length-drop k v)

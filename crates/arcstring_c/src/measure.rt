@@ -1,10 +1,13 @@
 // The measures of a string.
 ghost use mathlib.Core.Path.{_≡_};
 ghost use lib.ListN.{length};
-ghost use Rattle.arcstring.specs.Answer.{leaves};
-ghost use Rattle.arcstring.specs.Walk.{writtenFloats};
+ghost use Rattle.arcstring_check.specs.Answer.{leaves};
+ghost use Rattle.arcstring.specs.Written.{writtenFloats};
 ghost use Rattle.arcstring_measure.specs.Measure.{turnOrientations, midpoints};
-ghost use Rattle.arcstring_c.specs.Numbers.{answerNumber, leftIn, flag};
+ghost use Rattle.arcstring_put.specs.Put.{answerNumber, leftIn, flag};
+use arcstring_measure::measure;
+use arcstring_put::inner::lent;
+use arcstring_put::inner::put;
 
 #[no_mangle]
 pub extern "C" fn arcstring_turn_orientations(
@@ -17,8 +20,8 @@ pub extern "C" fn arcstring_turn_orientations(
     ensures { λ _. ⌜ now (out .exit) ≡ leaves (turnOrientations (now (v .entry)) (flag closed) (length (now (out .entry)))) (now (out .entry)) ⌝ }
     ensures { λ _. ⌜ now (count .exit) ≡ leftIn length (turnOrientations (now (v .entry)) (flag closed) (length (now (out .entry)))) (now (count .entry)) ⌝ }
 {
-    let r = arcstring_measure::measure::xyzs_turn_orientations(v, crate::is_closed(closed), out);
-    crate::written(r, count)
+    let r = measure::xyzs_turn_orientations(v, lent::is_closed(closed), out);
+    put::put_count(r, count)
 }
 
 #[no_mangle]
@@ -32,6 +35,6 @@ pub extern "C" fn arcstring_midpoints(
     ensures { λ _. ⌜ now (out .exit) ≡ leaves (writtenFloats (midpoints (now (v .entry)) (flag closed) (length (now (out .entry))))) (now (out .entry)) ⌝ }
     ensures { λ _. ⌜ now (count .exit) ≡ leftIn length (midpoints (now (v .entry)) (flag closed) (length (now (out .entry)))) (now (count .entry)) ⌝ }
 {
-    let r = arcstring_measure::measure::midpoints(v, crate::is_closed(closed), out);
-    crate::written(r, count)
+    let r = measure::midpoints(v, lent::is_closed(closed), out);
+    put::put_count(r, count)
 }

@@ -9,7 +9,7 @@ use borrow.Author.Count.{below-more}
 use lib.Dec.{eqb}
 use lib.ListN.{length, getD, set, take}
 use lib.Seq.{getD-set-same, getD-set-other, take-set-le, take-suc-set}
-use Rattle.arcstring.specs.Answer.{pick}
+use Rattle.arcstring_check.specs.Answer.{pick}
 use Rattle.arcstring_crossing.specs.Plane.{flaggedFrom}
 
 flagged-step : (flags : List ℕ) (k m c : ℕ) → m ≡ suc c → flaggedFrom flags k m ≡ pick (eqb (getD flags k 0) 0) [] (k ∷ []) ++ flaggedFrom flags (k + 1) c

@@ -1,4 +1,4 @@
--- Planes kept in a list of runs: what a plane written there leaves, and the class of a pair by what is read from it. Assumes nothing.
+-- A leg's plane, and planes kept in a list of runs: what a plane written there leaves, and the class of a pair by what is read from it. Assumes nothing.
 use mathlib.Core.Path.{_≡_, refl, sym, ap, ap₂, _∙_}
 use mathlib.Core.Bool.{Bool, true, false}
 use mathlib.Core.List.{List, [], _∷_}
@@ -12,14 +12,31 @@ use lib.ListN.{length, getD, set, length-set}
 use lib.Seq.{getD-set-same, getD-set-other}
 use lib.Ieee.{Float, nan}
 use Rattle.sphericalpoint.specs.declared.SphericalPoint.{SphericalPoint}
-use Rattle.sphericalpoint.specs.Vector.{xyzCross, xyzDot}
-use Rattle.arcstring_crossing.specs.declared.crossing.Pair.{Pair}
-use Rattle.arcstring_crossing.specs.declared.crossing.Pair.the-variants.{Apart}
-use Rattle.arcstring_crossing.specs.declared.crossing.Plane.{Plane}
-use Rattle.arcstring_crossing.specs.Crossing.{Leg, leg, pairOf, classAt}
-use Rattle.arcstring_crossing.specs.Plane.{planeLeg, planeOf, planeSides, runAt, putRun, PlaneAt, AllApart, FlagsOf}
-use Rattle.arcstring_crossing.specs.Leg.{legAt}
-use Rattle.arcstring_crossing.proofs.Classes.{planes-class}
+use Rattle.sphericalpoint.specs.Vector.{xyzCross, xyzDot, xyzNeg}
+use Rattle.arcstring_pair.specs.declared.pair.Pair.the-variants.{Apart}
+use Rattle.arcstring_crossing.specs.declared.inner.planes.Plane.{Plane}
+use Rattle.arcstring.specs.Leg.{Leg, legAt}
+use Rattle.arcstring_pair.specs.declared.pair.Pair.{Pair}
+use Rattle.arcstring_pair.specs.Pair.{normal, meeting, sideFrom, sideTo, sideValues, pairOf, classAt}
+use Rattle.arcstring_crossing.specs.Plane.{planeOf, planeSides, runAt, putRun, PlaneAt, AllApart, FlagsOf}
+
+-- ---- by what was worked out for each leg
+
+-- a leg's plane from its parts, each as a call returns it
+pub plane-made : (l : Leg) (u v n m p q : SphericalPoint) → u ≡ l .from → v ≡ l .to → n ≡ xyzCross u v → m ≡ xyzCross u n → p ≡ xyzNeg m → q ≡ xyzCross v n
+    → record { normal = n; «past_start» = p; «before_end» = q } ≡ planeOf l
+unfolding planeOf normal
+plane-made l u v n m p q h i j k e f = rw (e, f, k, j, h, i)
+
+pub by-planes : (l m : Leg) (t : SphericalPoint) (s : List Float) → t ≡ xyzCross (planeOf l .normal) (planeOf m .normal)
+    → s ≡ planeSides (planeOf l) (planeOf m) t
+    → classAt t l m s ≡ pairOf l m
+unfolding pairOf meeting sideValues sideFrom sideTo planeOf planeSides
+by-planes l m t s h k = ap (classAt t l m) k ∙ ap (λ (u : SphericalPoint). classAt u l m (planeSides (planeOf l) (planeOf m) u)) h
+
+-- the class of a pair whose second leg is the one that is meant
+pub pair-with : (a x y : Leg) (r : Pair) → r ≡ pairOf a x → x ≡ y → r ≡ pairOf a y
+pair-with a x y r h e = h ∙ ap (pairOf a) e
 
 -- ---- a place in the list is one run's and one place's only
 
@@ -102,12 +119,12 @@ module _ (old : List Float) (w j k : ℕ) (p : SphericalPoint) (at : k < w) (fit
 -- ---- a plane written
 
 module _ (l0 l1 l2 l3 : List Float) (w k : ℕ) (p : Plane) (long : 9 * w ≤ length l0) (at : k < w)
-    (w1 : l1 ≡ putRun l0 w 0 k (p .normal)) (w2 : l2 ≡ putRun l1 w 3 k (p .before)) (w3 : l3 ≡ putRun l2 w 6 k (p .after)) where
+    (w1 : l1 ≡ putRun l0 w 0 k (p .normal)) (w2 : l2 ≡ putRun l1 w 3 k (p .«past_start»)) (w3 : l3 ≡ putRun l2 w 6 k (p .«before_end»)) where
   size1 : length l1 ≡ length l0
   size1 = ap length w1 ∙ run-size l0 w 0 k (p .normal) at (omega arith)
 
   size2 : length l2 ≡ length l1
-  size2 = ap length w2 ∙ run-size l1 w 3 k (p .before) at (omega (arith, size1))
+  size2 = ap length w2 ∙ run-size l1 w 3 k (p .«past_start») at (omega (arith, size1))
 
   fits1 : (0 + 3) * w ≤ length l0
   fits1 = omega arith
@@ -123,31 +140,36 @@ module _ (l0 l1 l2 l3 : List Float) (w k : ℕ) (p : Plane) (long : 9 * w ≤ le
       record {
         normal-at =
             ap (λ (l : List Float). runAt l w 0 k) w3
-            ∙ other-run l2 w 6 k (p .after) at fits3 0 k at (λ d e h i q r. absurd (omega arith))
+            ∙ other-run l2 w 6 k (p .«before_end») at fits3 0 k at (λ d e h i q r. absurd (omega arith))
             ∙ ap (λ (l : List Float). runAt l w 0 k) w2
-            ∙ other-run l1 w 3 k (p .before) at fits2 0 k at (λ d e h i q r. absurd (omega arith))
+            ∙ other-run l1 w 3 k (p .«past_start») at fits2 0 k at (λ d e h i q r. absurd (omega arith))
             ∙ ap (λ (l : List Float). runAt l w 0 k) w1
             ∙ this-run l0 w 0 k (p .normal) at fits1;
-        before-at =
+        past-start-at =
             ap (λ (l : List Float). runAt l w 3 k) w3
-            ∙ other-run l2 w 6 k (p .after) at fits3 3 k at (λ d e h i q r. absurd (omega arith))
+            ∙ other-run l2 w 6 k (p .«before_end») at fits3 3 k at (λ d e h i q r. absurd (omega arith))
             ∙ ap (λ (l : List Float). runAt l w 3 k) w2
-            ∙ this-run l1 w 3 k (p .before) at fits2;
-        after-at = ap (λ (l : List Float). runAt l w 6 k) w3 ∙ this-run l2 w 6 k (p .after) at fits3;
+            ∙ this-run l1 w 3 k (p .«past_start») at fits2;
+        before-end-at = ap (λ (l : List Float). runAt l w 6 k) w3 ∙ this-run l2 w 6 k (p .«before_end») at fits3;
       }
 
   -- those before it stay
   stays : (i m : ℕ) → m < k → runAt l3 w i m ≡ runAt l0 w i m
   stays i m h =
       ap (λ (l : List Float). runAt l w i m) w3
-      ∙ other-run l2 w 6 k (p .after) at fits3 i m (omega arith) (λ d e a b q r. absurd (omega arith))
+      ∙ other-run l2 w 6 k (p .«before_end») at fits3 i m (omega arith) (λ d e a b q r. absurd (omega arith))
       ∙ ap (λ (l : List Float). runAt l w i m) w2
-      ∙ other-run l1 w 3 k (p .before) at fits2 i m (omega arith) (λ d e a b q r. absurd (omega arith))
+      ∙ other-run l1 w 3 k (p .«past_start») at fits2 i m (omega arith) (λ d e a b q r. absurd (omega arith))
       ∙ ap (λ (l : List Float). runAt l w i m) w1
       ∙ other-run l0 w 0 k (p .normal) at fits1 i m (omega arith) (λ d e a b q r. absurd (omega arith))
 
   pub plane-stays : (m : ℕ) → m < k → (q : Plane) → PlaneAt l0 w m q → PlaneAt l3 w m q
-  plane-stays m h q r = record { normal-at = stays 0 m h ∙ r .normal-at; before-at = stays 3 m h ∙ r .before-at; after-at = stays 6 m h ∙ r .after-at }
+  plane-stays m h q r = record {
+    normal-at = stays 0 m h ∙ r .normal-at;
+    past-start-at = stays 3 m h ∙ r .past-start-at;
+    before-end-at = stays 6 m h
+        ∙ r .before-end-at;
+  }
 
 -- ---- planes written one after the other
 
@@ -155,8 +177,8 @@ plane-as : (planes : List Float) (w k : ℕ) (p q : Plane) → p ≡ q → Plane
 plane-as planes w k p q e h =
     record {
       normal-at = h .normal-at ∙ ap (λ (r : Plane). r .normal) e;
-      before-at = h .before-at ∙ ap (λ (r : Plane). r .before) e;
-      after-at = h .after-at ∙ ap (λ (r : Plane). r .after) e;
+      past-start-at = h .past-start-at ∙ ap (λ (r : Plane). r .«past_start») e;
+      before-end-at = h .before-end-at ∙ ap (λ (r : Plane). r .«before_end») e;
     }
 
 pub planes-next : (v : List Float) (n : ℕ) (old new : List Float) (w k : ℕ) (p : Plane) → ((j : ℕ) → j < k → PlaneAt old w j (planeOf (legAt v n j))) → p
@@ -169,57 +191,50 @@ planes-next v n old new w k p all e s =
 
 -- ---- the class of a pair, by what is read of the second leg
 
-pub read-class : (a b : Plane) (x : Leg) (planes : List Float) (w k : ℕ) (t n2 b2 a2 : SphericalPoint) (s : List Float) → a ≡ planeOf (planeLeg a) → b
-    ≡ planeOf x → PlaneAt planes w k b
-    → n2 ≡ runAt planes w 0 k → b2 ≡ runAt planes w 3 k → a2 ≡ runAt planes w 6 k
-    → t ≡ xyzCross (a .normal) n2 → s ≡ xyzDot (a .before) t ∷ xyzDot (a .after) t ∷ xyzDot b2 t ∷ xyzDot a2 t ∷ []
-    → classAt t (planeLeg a) x s ≡ pairOf (planeLeg a) x
-unfolding planeSides planeOf
-read-class a b x planes w k t n2 b2 a2 s ha hb at hn hbef haft ht hs =
-    let same : planeLeg b ≡ x = ap planeLeg hb in
-    ap (λ (l : Leg). classAt t (planeLeg a) l s) (sym same)
-    ∙ planes-class a b t s ha (hb ∙ ap planeOf (sym same)) (ht ∙ ap (xyzCross (a .normal)) (hn ∙ at .normal-at))
-    (hs ∙ ap₂ (λ (u w : SphericalPoint). xyzDot (a .before) t ∷ xyzDot (a .after) t ∷ xyzDot u t ∷ xyzDot w t ∷ []) (hbef ∙ at .before-at)
-    (haft ∙ at .after-at))
-    ∙ ap (pairOf (planeLeg a)) same
-
-pub class-of-leg : (t : SphericalPoint) (a : Leg) (b0 b1 p0 p1 : SphericalPoint) (x : Leg) (s : List Float) (r : Pair) → r ≡ classAt t a (leg b0 b1) s → b0
-    ≡ p0 → b1 ≡ p1 → leg p0 p1 ≡ x
-    → r ≡ classAt t a x s
-class-of-leg t a b0 b1 p0 p1 x s r h h0 h1 e = h ∙ ap (λ (l : Leg). classAt t a l s) (ap₂ leg h0 h1 ∙ e)
+pub read-class : (l x : Leg) (a b : Plane) (planes : List Float) (w k : ℕ) (t : SphericalPoint) (s : List Float)
+    → a ≡ planeOf l → PlaneAt planes w k (planeOf x) → PlaneAt planes w k b → t ≡ xyzCross (a .normal) (b .normal) → s ≡ planeSides a b t
+    → classAt t l x s ≡ pairOf l x
+unfolding planeSides
+read-class l x a b planes w k t s ha hx hb ht hs =
+    by-planes l x t s (ht ∙ ap₂ xyzCross (ap (λ (p : Plane). p .normal) ha) (sym (hb .normal-at) ∙ hx .normal-at))
+    (hs ∙ ap (λ (p : Plane). planeSides p b t) ha
+    ∙ ap₂ (λ (u v : SphericalPoint). xyzDot (planeOf l .«past_start») t ∷ xyzDot (planeOf l .«before_end») t ∷ xyzDot u t ∷ xyzDot v t ∷ [])
+    (sym (hb .past-start-at) ∙ hx .past-start-at) (sym (hb .before-end-at) ∙ hx .before-end-at))
 
 -- ---- the flags of a row
 
-module _ (a : Leg) (planes : List Float) (w from k : ℕ) where
+module _ (a : Plane) (planes : List Float) (w from k : ℕ) where
   -- one more pair that is apart, where its flag is 0
-  pub aparts-next : (found f : ℕ) → (found ≡ 0 → AllApart a planes w from k) → ((x : Leg) → PlaneAt planes w k (planeOf x) → f ≡ 0 → Apart ≡ pairOf a x)
+  pub aparts-next : (found f : ℕ) → (found ≡ 0 → AllApart a planes w from k)
+      → ((l x : Leg) → a ≡ planeOf l → PlaneAt planes w k (planeOf x) → f ≡ 0 → Apart ≡ pairOf l x)
       → found + f ≡ 0 → AllApart a planes w from (k + 1)
   aparts-next found f all here z =
       let o = all (omega arith) in
       let e : f ≡ 0 = omega arith in
-      let more = below-more (λ (j : ℕ). from ≤ j → (x : Leg) → PlaneAt planes w j (planeOf x) → Apart ≡ pairOf a x) k (λ j h i x q. o .each j i h x q)
-      (λ i x q. here x q e) in
-      record { each = λ j i h x q. more j h i x q }
+      let more = below-more (λ (j : ℕ). from ≤ j → (l x : Leg) → a ≡ planeOf l → PlaneAt planes w j (planeOf x) → Apart ≡ pairOf l x) k
+      (λ j h i l x p q. o .each j i h l x p q) (λ i l x p q. here l x p q e) in
+      record { each = λ j i h l x p q. more j h i l x p q }
 
   pub flags-next : (flags : List ℕ) (f : ℕ) → k < length flags → FlagsOf a planes w from k flags
-      → ((x : Leg) → PlaneAt planes w k (planeOf x) → f ≡ 0 → Apart ≡ pairOf a x)
+      → ((l x : Leg) → a ≡ planeOf l → PlaneAt planes w k (planeOf x) → f ≡ 0 → Apart ≡ pairOf l x)
       → FlagsOf a planes w from (k + 1) (set flags k f)
   flags-next flags f fits old here =
       let more =
-      below-more (λ (j : ℕ). from ≤ j → (x : Leg) → PlaneAt planes w j (planeOf x) → getD (set flags k f) j 0 ≡ 0 → Apart ≡ pairOf a x) k
-      (λ j h i x q z. old .each j i h x q (sym (getD-set-other flags k j f 0 (λ e. absurd (omega arith))) ∙ z))
-      (λ i x q z. here x q (sym (getD-set-same flags k f 0 fits) ∙ z)) in
-      record { each = λ j i h x q z. more j h i x q z }
+      below-more (λ (j : ℕ). from ≤ j → (l x : Leg) → a ≡ planeOf l → PlaneAt planes w j (planeOf x) → getD (set flags k f) j 0 ≡ 0 → Apart ≡ pairOf l x) k
+      (λ j h i l x p q z. old .each j i h l x p q (sym (getD-set-other flags k j f 0 (λ e. absurd (omega arith))) ∙ z))
+      (λ i l x p q z. here l x p q (sym (getD-set-same flags k f 0 fits) ∙ z)) in
+      record { each = λ j i h l x p q z. more j h i l x p q z }
 
-pub aparts-none : (a : Leg) (planes : List Float) (w from : ℕ) → AllApart a planes w from from
-aparts-none a planes w from = record { each = λ j i h x q. absurd (omega arith) }
+pub aparts-none : (a : Plane) (planes : List Float) (w from : ℕ) → AllApart a planes w from from
+aparts-none a planes w from = record { each = λ j i h l x p q. absurd (omega arith) }
 
-pub flags-none : (a : Leg) (planes : List Float) (w from : ℕ) (flags : List ℕ) → FlagsOf a planes w from from flags
-flags-none a planes w from flags = record { each = λ j i h x q z. absurd (omega arith) }
+pub flags-none : (a : Plane) (planes : List Float) (w from : ℕ) (flags : List ℕ) → FlagsOf a planes w from from flags
+flags-none a planes w from flags = record { each = λ j i h l x p q z. absurd (omega arith) }
 
 -- from a position on that lies past the end there are none
-pub aparts-to : (a : Leg) (planes : List Float) (w from k to : ℕ) → to ≤ k → AllApart a planes w from k → AllApart a planes w from to
-aparts-to a planes w from k to h o = record { each = λ j i l x q. o .each j i (omega arith) x q }
+pub aparts-to : (a : Plane) (planes : List Float) (w from k to : ℕ) → to ≤ k → AllApart a planes w from k → AllApart a planes w from to
+aparts-to a planes w from k to h o = record { each = λ j i m l x p q. o .each j i (omega arith) l x p q }
 
-pub flags-to : (a : Leg) (planes : List Float) (w from k to : ℕ) (flags : List ℕ) → to ≤ k → FlagsOf a planes w from k flags → FlagsOf a planes w from to flags
-flags-to a planes w from k to flags h o = record { each = λ j i l x q z. o .each j i (omega arith) x q z }
+pub flags-to : (a : Plane) (planes : List Float) (w from k to : ℕ) (flags : List ℕ) → to ≤ k → FlagsOf a planes w from k flags
+    → FlagsOf a planes w from to flags
+flags-to a planes w from k to flags h o = record { each = λ j i m l x p q z. o .each j i (omega arith) l x p q z }

@@ -1,7 +1,5 @@
--- What the pair test takes of a leg, worked out once, and that it is all of the leg that the test needs: for the contracts of inner functions. Definitions
--- only.
+-- What the pair test takes of a leg, worked out once, and that it is all of the leg that the test needs: for inner contracts. Definitions only.
 use mathlib.Core.Path.{_≡_}
-use mathlib.Core.Bool.{Bool, not, _&&_}
 use mathlib.Core.List.{List, [], _∷_, _++_}
 use Prim.Native.Nat.{ℕ, zero, suc, _+_, _*_, _<_, _≤_}
 use lib.ListN.{length, getD, set}
@@ -9,26 +7,20 @@ use lib.Dec.{eqb}
 use lib.Ieee.{Float, nan}
 use Rattle.sphericalpoint.specs.declared.SphericalPoint.{SphericalPoint}
 use Rattle.sphericalpoint.specs.Vector.{xyzCross, xyzDot, xyzNeg}
-use Rattle.arcstring_crossing.specs.declared.crossing.Plane.{Plane}
-use Rattle.arcstring.specs.Answer.{pick}
+use Rattle.arcstring_crossing.specs.declared.inner.planes.Plane.{Plane}
+use Rattle.arcstring_check.specs.Answer.{pick}
 use Rattle.arcstring.specs.Points.{point}
-use Rattle.arcstring_crossing.specs.declared.crossing.Pair.the-variants.{Apart}
-use Rattle.arcstring_crossing.specs.Crossing.{Leg, leg, normal, pairOf, grazes, isAbove, isBelow, someSide}
-use Rattle.arcstring_crossing.specs.Leg.{legAt}
-
-abbrev pub planeLeg : Plane → Leg
-planeLeg a = leg (a .from) (a .to)
+use Rattle.arcstring_pair.specs.declared.pair.Pair.the-variants.{Apart}
+use Rattle.arcstring_pair.specs.Pair.{normal, pairOf}
+use Rattle.arcstring_check.specs.Check.{mostPoints}
+use Rattle.arcstring.specs.Leg.{Leg, legAt}
 
 unfoldable pub planeOf : Leg → Plane
-planeOf l = record { from = l .from; to = l .to; normal = normal l; before = xyzNeg (xyzCross (l .from) (normal l)); after = xyzCross (l .to) (normal l) }
+planeOf l = record { normal = normal l; «past_start» = xyzNeg (xyzCross (l .from) (normal l)); «before_end» = xyzCross (l .to) (normal l) }
 
 -- the four side values
 unfoldable pub planeSides : Plane → Plane → SphericalPoint → List Float
-planeSides a b t = xyzDot (a .before) t ∷ xyzDot (a .after) t ∷ xyzDot (b .before) t ∷ xyzDot (b .after) t ∷ []
-
--- the side values show that a pair is apart: none grazes, some is above zero and some below
-unfoldable pub showsApart : List Float → Bool
-showsApart s = not (someSide grazes s) && someSide isAbove s && someSide isBelow s
+planeSides a b t = xyzDot (a .«past_start») t ∷ xyzDot (a .«before_end») t ∷ xyzDot (b .«past_start») t ∷ xyzDot (b .«before_end») t ∷ []
 
 -- ---- planes kept in a list of nine runs of so many floats: one for each coordinate of a leg's own cross product and of the two vectors of its side values
 
@@ -42,25 +34,25 @@ putRun planes width j k p = set (set (set planes (j * width + k) (p .x)) ((j + 1
 
 pub record PlaneAt (planes : List Float) (width k : ℕ) (p : Plane) : Type 0 where
   pub normal-at : runAt planes width 0 k ≡ p .normal
-  pub before-at : runAt planes width 3 k ≡ p .before
-  pub after-at : runAt planes width 6 k ≡ p .after
+  pub past-start-at : runAt planes width 3 k ≡ p .«past_start»
+  pub before-end-at : runAt planes width 6 k ≡ p .«before_end»
 
 -- the list holds the planes of the first l legs of a string of n vertices
 pub record PlanesOf (v : List Float) (n l : ℕ) (planes : List Float) (width : ℕ) : Type 0 where
   pub long : 9 * width ≤ length planes
   pub wide : l ≤ width
-  pub narrow : width ≤ 1024
+  pub narrow : width ≤ mostPoints
   pub each : (k : ℕ) → k < l → PlaneAt planes width k (planeOf (legAt v n k))
 
--- ---- what a pass over the planes tells of a leg's pairs with those from position `from` up to `to`
+-- ---- what a pass over the planes tells of the pairs of a leg, by its plane, with those from position `from` up to `to`
 
 -- each pair is apart
-pub record AllApart (a : Leg) (planes : List Float) (width from to : ℕ) : Type 0 where
-  pub each : (k : ℕ) → from ≤ k → k < to → (x : Leg) → PlaneAt planes width k (planeOf x) → Apart ≡ pairOf a x
+pub record AllApart (plane : Plane) (planes : List Float) (width from to : ℕ) : Type 0 where
+  pub each : (k : ℕ) → from ≤ k → k < to → (a x : Leg) → plane ≡ planeOf a → PlaneAt planes width k (planeOf x) → Apart ≡ pairOf a x
 
 -- each pair whose flag is 0 is
-pub record FlagsOf (a : Leg) (planes : List Float) (width from to : ℕ) (flags : List ℕ) : Type 0 where
-  pub each : (k : ℕ) → from ≤ k → k < to → (x : Leg) → PlaneAt planes width k (planeOf x) → getD flags k 0 ≡ 0 → Apart ≡ pairOf a x
+pub record FlagsOf (plane : Plane) (planes : List Float) (width from to : ℕ) (flags : List ℕ) : Type 0 where
+  pub each : (k : ℕ) → from ≤ k → k < to → (a x : Leg) → plane ≡ planeOf a → PlaneAt planes width k (planeOf x) → getD flags k 0 ≡ 0 → Apart ≡ pairOf a x
 
 -- of so many positions from k on, those whose flag is not 0
 unfoldable pub flaggedFrom : List ℕ → ℕ → ℕ → List ℕ

@@ -1,30 +1,30 @@
 -- What inserting into a string answers, and both buffers after it, from the checks and from what the steps did; finished vertices handed over. Assumes nothing.
 use mathlib.Core.Path.{_≡_, refl, sym, ap, subst, _∙_}
 use mathlib.Core.Bool.{Bool, true, false, _||_}
-use mathlib.Core.List.{List, _++_}
+use mathlib.Core.List.{List, _++_, [], _∷_}
 use Prim.Native.Nat.{ℕ, zero, suc, _*_, _/_, _≤_}
 use native.Mathlib.Omega.{arith}
 use lib.Dec.{ltb}
 use lib.ListN.{length, take, drop}
 use lib.Seq.{length-take-le}
 use lib.Ieee.{Float}
-use Rattle.arcstring.specs.declared.check.Refusal.{Refusal}
-use Rattle.arcstring.specs.declared.check.Checked.{Checked}
-use Rattle.arcstring.specs.declared.check.Checked.the-variants.{Accepted, Refused}
-use Rattle.arcstring.specs.declared.vertex.Vertex.{Vertex}
-use Rattle.arcstring.specs.declared.walk.Written.{Written}
-use Rattle.arcstring.specs.declared.walk.Written.the-variants as W
-use Rattle.arcstring.specs.Answer.{Answer, refused, answered, unlessRefused, firstOf, andThen, refusalNumber}
+use Rattle.arcstring_check.specs.declared.check.Refusal.{Refusal}
+use Rattle.arcstring_check.specs.declared.check.Checked.{Checked}
+use Rattle.arcstring_check.specs.declared.check.Checked.the-variants.{Accepted, Refused}
+use Rattle.arcstring.specs.declared.inner.vertex.Vertex.{Vertex}
+use Rattle.arcstring_check.specs.declared.check.Written.{Written}
+use Rattle.arcstring_check.specs.declared.check.Written.the-variants as W
+use Rattle.arcstring_check.specs.Answer.{Answer, refused, answered, unlessRefused, firstOf, andThen, refusalNumber}
 use Rattle.arcstring.specs.Points.{numbered, placeOf, points}
 use Rattle.arcstring.specs.Splice.{splice}
-use Rattle.arcstring.specs.Check.{checkNumber, stringCheck, pointsCheck, intoRooms, lent}
+use Rattle.arcstring_check.specs.Check.{checkNumber, stringCheck, pointsCheck, intoRooms, lent}
 use Rattle.arcstring.specs.Work.{firstOfList, held, heldCount}
-use Rattle.arcstring.proofs.Answers.{answer-refused-first, answer-accepted-first, first-passes, second-passes}
-use Rattle.arcstring.proofs.Checks.{WholeList, stored-whole, stored-some, string-stored, as-many-buoys, points-whole, points-buoys}
+use Rattle.arcstring_check.proofs.Answers.{refused-in-turn, accepted-in-turn}
 use Rattle.arcstring.proofs.Splices.{splice-front}
 use Rattle.arcstring.proofs.Written.{Leaves, left-refused, left-written, no-rooms, rooms-enough}
 use Rattle.arcstring_insert.specs.Insert.{inserted, insertVertices}
 use Rattle.arcstring_insert.proofs.Inserted.{firstVertices, first-floats, places-first, buoys-first, length-vertices, vertices-copied}
+use Rattle.arcstring_insert.proofs.BothChecks.{both-accepted}
 
 -- ---- finished vertices handed over
 
@@ -70,34 +70,9 @@ then-unless : {A B : Type 0} (n : ℕ) (a : Answer A) (f : A → Answer B) → a
 then-unless zero a f = refl
 then-unless (suc n) a f = refl
 
--- Accepted vertices are whole triples, one at least and at most 1,024, and there are as many numbers; accepted points are whole triples, with as many numbers.
-pub record Both (v : List Float) (bs : List ℕ) (extra : List Float) (es : List ℕ) : Type 0 where
-  pub vertices : WholeList v
-  pub some : 1 ≤ length v / 3
-  pub numbers : length bs ≡ length v / 3
-  pub points : length extra ≡ 3 * length es
-
 -- k is what the checks of the vertices and of the points answer
 module _ (k : Checked) (v : List Float) (bs : List ℕ) (extra : List Float) (es : List ℕ)
     (number : checkNumber k ≡ firstOf (stringCheck v bs) (pointsCheck extra es)) where
-  module _ (told : k ≡ Accepted) where
-    passed : firstOf (stringCheck v bs) (pointsCheck extra es) ≡ 0
-    passed = sym number ∙ ap checkNumber told
-
-    string-passed : stringCheck v bs ≡ 0
-    string-passed = first-passes (stringCheck v bs) (pointsCheck extra es) passed
-
-    points-passed : pointsCheck extra es ≡ 0
-    points-passed = second-passes (stringCheck v bs) (pointsCheck extra es) passed
-
-    pub accepted : Both v bs extra es
-    accepted = record {
-      vertices = stored-whole v (string-stored v bs string-passed);
-      some = stored-some v (string-stored v bs string-passed);
-      numbers = as-many-buoys v bs string-passed;
-      points = omega (arith, points-whole extra es points-passed .triples, points-buoys extra es points-passed);
-    }
-
   module _ (closed : Bool) (old : List Float) (oldBuoys : List ℕ) where
     abbrev answer : Answer (List Vertex)
     answer = insertVertices v bs closed extra es (length old) (length oldBuoys)
@@ -111,7 +86,7 @@ module _ (k : Checked) (v : List Float) (bs : List ℕ) (extra : List Float) (es
 
     pub refused-insert : (e : Refusal) → k ≡ Refused e → Leaves old oldBuoys answer (refused (refusalNumber e)) old oldBuoys
     refused-insert e told =
-        left-refused old oldBuoys answer (refusalNumber e) (answer-refused-first k e (stringCheck v bs) (pointsCheck extra es) _ told number ∙ in-turn)
+        left-refused old oldBuoys answer (refusalNumber e) (refused-in-turn k e (stringCheck v bs) (pointsCheck extra es ∷ []) _ told number ∙ in-turn)
 
     -- the vertices and their numbers copied to w and cs, the points put in, which left w' and cs', and what handing over answers and leaves
     pub written-insert : (blank w w' : List Float) (blanks cs cs' : List ℕ) (a : Written) (r : Answer ℕ) (out : List Float) (outBuoys : List ℕ)
@@ -120,11 +95,11 @@ module _ (k : Checked) (v : List Float) (bs : List ℕ) (extra : List Float) (es
         → held a (numbered (points w') cs') ≡ inserted placeOf closed (numbered (points extra) es) (firstVertices (length v / 3) w cs)
         → Leaves old oldBuoys (finished a w' cs' old oldBuoys) r out outBuoys → Leaves old oldBuoys answer r out outBuoys
     written-insert blank w w' blanks cs cs' a r out outBuoys told room many copied likewise put left =
-        let lists = accepted told in
+        let lists = both-accepted k v bs extra es number told in
         let start = vertices-copied (length v / 3) v blank w bs blanks cs (lists .vertices .triples) (lists .numbers) room many copied likewise in
         let same : finished a w' cs' old oldBuoys ≡ answer =
         ap (λ (b : Answer (List Vertex)). andThen b (intoRooms (length old) (length oldBuoys)))
         (put ∙ ap (inserted placeOf closed (numbered (points extra) es)) start)
-        ∙ answer-accepted-first k (stringCheck v bs) (pointsCheck extra es) _ told number
+        ∙ accepted-in-turn k (stringCheck v bs) (pointsCheck extra es ∷ []) _ told number
         ∙ in-turn in
         subst (λ (b : Answer (List Vertex)). Leaves old oldBuoys b r out outBuoys) same left

@@ -7,12 +7,13 @@ use native.Mathlib.Omega.{arith}
 use lib.ListN.{length, take, drop}
 use lib.Ieee.{Float}
 use Rattle.sphericalpoint.specs.declared.SphericalPoint.{SphericalPoint}
-use Rattle.arcstring.specs.declared.vertex.Vertex.{Vertex}
-use Rattle.arcstring.specs.Answer.{Answer, refused, answered, andThen, pick}
+use Rattle.arcstring.specs.declared.inner.vertex.Vertex.{Vertex}
+use Rattle.arcstring_check.specs.Answer.{Answer, refused, answered, andThen, pick}
 use Rattle.arcstring.specs.Points.{placeOf}
 use Rattle.arcstring.specs.Splice.{splice}
-use Rattle.arcstring.proofs.Answers.{then-answered, then-refused}
-use Rattle.arcstring_crossing.specs.Leg.{legAt, legCount}
+use Rattle.arcstring.specs.Leg.{legAt, legCount}
+use Rattle.arcstring_check.specs.Check.{mostPoints}
+use Rattle.arcstring_check.proofs.Answers.{then-answered, then-refused}
 use Rattle.arcstring_along.specs.OnString.{alongLeg}
 use Rattle.arcstring_insert.specs.Steps.{legFrom, limited}
 use Rattle.arcstring_insert.specs.Insert.{insertAt, insertWalk, insertPoint}
@@ -77,16 +78,16 @@ module _ (x : Vertex) (w : List Float) (bs : List ℕ) (m k legs i : ℕ) (whole
     length-more = length-inserted k x vs ∙ ap (λ (j : ℕ). j + 1) (length-vertices m w bs room many)
 
     -- along it, and one vertex too many
-    pub walk-full : b ≡ true → m ≡ 1024 → refused 3 ≡ whole
+    pub walk-full : b ≡ true → m ≡ mostPoints → refused 3 ≡ whole
     walk-full e full =
         sym (then-refused _ on 3 (over-limit (length more-vs) more-vs (omega (arith, length-more)))) ∙ next-by true e
 
     -- along it
-    pub walk-on : (w' : List Float) (bs' : List ℕ) → b ≡ true → m < 1024 → length w ≡ 3072 → length bs ≡ 1024
+    pub walk-on : (w' : List Float) (bs' : List ℕ) → b ≡ true → m < mostPoints → length w ≡ 3 * mostPoints → length bs ≡ mostPoints
         → w' ≡ splice w (3 * k) (floats (x .place) ++ take (3 * (m - k)) (drop (3 * k) w)) → bs' ≡ splice bs k (x .buoy ∷ take (m - k) (drop k bs))
         → on (firstVertices (m + 1) w' bs') ≡ whole
     walk-on w' bs' e some large large' written likewise =
-        ap on (vertices-inserted w w' bs bs' 1024 m k x large large' (omega arith) some written likewise)
+        ap on (vertices-inserted w w' bs bs' mostPoints m k x large large' (omega arith) some written likewise)
         ∙ sym (then-answered _ on more-vs (at-most-limit (length more-vs) more-vs (omega (arith, length-more))))
         ∙ next-by true e
 
@@ -102,12 +103,13 @@ walk-begin x w bs n legs closed room many count =
 
 -- ---- the numbers of the walk: m vertices stand in lists of 1,024, leg i of `legs` starts at k
 
-module _ (legs i k m room buoyRoom : ℕ) (more : i < legs) (ahead : k + (legs - i) ≤ m) (most : m ≤ 1024) (wide : room ≡ 3072) (long : buoyRoom ≡ 1024) where
+module _ (legs i k m room buoyRoom : ℕ) (more : i < legs) (ahead : k + (legs - i) ≤ m) (most : m ≤ mostPoints)
+    (wide : room ≡ 3 * mostPoints) (long : buoyRoom ≡ mostPoints) where
   pub leg-within : (3 * m ≤ room) × (m ≤ buoyRoom) × (k < m)
   leg-within = (omega arith, omega arith, omega arith)
 
   pub past-numbers : (i + 1 ≤ legs) × (k + 1 + (legs - (i + 1)) ≤ m)
   past-numbers = (omega arith, omega arith)
 
-  pub on-numbers : (m ≡ 1024 → ⊥) → (i + 1 ≤ legs) × (k + 2 + (legs - (i + 1)) ≤ m + 1) × (m + 1 ≤ 1024) × (m < 1024)
+  pub on-numbers : (m ≡ mostPoints → ⊥) → (i + 1 ≤ legs) × (k + 2 + (legs - (i + 1)) ≤ m + 1) × (m + 1 ≤ mostPoints) × (m < mostPoints)
   on-numbers some = (omega arith, omega arith, omega arith, omega arith)

@@ -7,14 +7,14 @@ use lib.ListN.{length, take, drop, length-append, length-drop, take-append-drop}
 use lib.Seq.{length-take-le, take-take, take-all}
 use lib.Ieee.{Float}
 use Rattle.sphericalpoint.specs.declared.SphericalPoint.{SphericalPoint}
-use Rattle.arcstring.specs.declared.vertex.Vertex.{Vertex}
+use Rattle.arcstring.specs.declared.inner.vertex.Vertex.{Vertex}
 use Rattle.arcstring.specs.Points.{numbered, placesOf, buoysOf, points, flat}
 use Rattle.arcstring.specs.Splice.{splice}
+use Rattle.arcstring.specs.Work.{firstOfList}
 use Rattle.arcstring.proofs.Flat.{flat-points, length-points, points-append, take-points, drop-points}
 use Rattle.arcstring.proofs.Splices.{take-past-splice}
 use Rattle.arcstring.proofs.Firsts.{first-points, first-whole, first-copied, length-first-of-list}
 use Rattle.arcstring.proofs.Numbered.{all-places, all-buoys, length-numbered, numbered-take, numbered-drop, numbered-splice}
-use Rattle.arcstring.specs.Work.{firstOfList}
 use Rattle.arcstring_insert.specs.Insert.{insertAt}
 use Rattle.arcstring_insert.proofs.Shifts.{floats, drop-take}
 

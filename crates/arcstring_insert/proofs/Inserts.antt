@@ -7,21 +7,21 @@ use native.Mathlib.Omega.{arith}
 use lib.ListN.{length, drop}
 use lib.Ieee.{Float}
 use Rattle.sphericalpoint.specs.declared.SphericalPoint.{SphericalPoint}
-use Rattle.arcstring.specs.declared.check.Refusal.{Refusal}
-use Rattle.arcstring.specs.declared.vertex.Vertex.{Vertex}
-use Rattle.arcstring.specs.declared.walk.Written.{Written}
-use Rattle.arcstring.specs.declared.walk.Written.the-variants as W
-use Rattle.arcstring.specs.Answer.{Answer, answered, andThen, pick, refusalNumber}
+use Rattle.arcstring_check.specs.declared.check.Refusal.{Refusal}
+use Rattle.arcstring.specs.declared.inner.vertex.Vertex.{Vertex}
+use Rattle.arcstring_check.specs.declared.check.Written.{Written}
+use Rattle.arcstring_check.specs.declared.check.Written.the-variants as W
+use Rattle.arcstring_check.specs.Answer.{Answer, answered, andThen, pick, refusalNumber}
 use Rattle.arcstring.specs.Points.{numbered, placeOf, points}
 use Rattle.arcstring.specs.Positions.{vertexAt}
-use Rattle.arcstring.specs.Work.{held, heldCount}
+use Rattle.arcstring.specs.Work.{held}
+use Rattle.arcstring.specs.Leg.{legCount}
 use Rattle.arcstring.proofs.Flat.{length-points}
 use Rattle.arcstring.proofs.Numbered.{length-numbered}
-use Rattle.arcstring_crossing.specs.Leg.{legCount}
 use Rattle.arcstring_along.specs.OnString.{alongLeg}
 use Rattle.arcstring_insert.specs.Steps.{forEach, legFrom, limited}
 use Rattle.arcstring_insert.specs.Insert.{insertAt, insertWalk, insertPoint}
-use Rattle.arcstring_insert.proofs.Limits.{past-limit, same-answer}
+use Rattle.arcstring_insert.proofs.Limits.{past-limit}
 use Rattle.arcstring_insert.proofs.Inserted.{firstVertices, length-inserted, length-vertices}
 use Rattle.arcstring_insert.proofs.Steps.{each-on, each-stops, each-end, vertices-next}
 
@@ -39,7 +39,7 @@ module _ {A : Type 0} (pt : A → SphericalPoint) (x : A) (ys : List A) where
 
   walk-longer : (left k : ℕ) (xs : List A) → insertWalk pt x k left xs ≡ answered ys → length xs ≤ length ys
   unfolding insertWalk
-  walk-longer zero k xs h = omega (arith, ap length (same-answer xs ys h))
+  walk-longer zero k xs h = let e : xs ≡ ys = cc in omega (arith, ap length e)
   walk-longer (suc left) k xs h = longer-by (alongLeg (pt x) (legFrom (map pt xs) k)) left k xs (walk-longer left) h
 
   insert-longer : (closed : Bool) (xs : List A) → insertPoint pt closed x xs ≡ answered ys → length xs ≤ length ys
@@ -91,7 +91,3 @@ module _ (closed : Bool) (extra : List Float) (es : List ℕ) (triples : length 
     points-longer longer told room many room' many' =
         let more = insert-longer placeOf (vertexAt extra es i) (firstVertices longer w' bs') closed vs (answer (W.Vertices longer) told) in
         omega (arith, length-vertices m w bs room many, length-vertices longer w' bs' room' many', more)
-
--- at most so many
-pub held-at-most : (a : Written) (n most : ℕ) → a ≡ W.Vertices n → heldCount a ≤ most → n ≤ most
-held-at-most a n most told h = omega (arith, ap heldCount told)

@@ -9,14 +9,14 @@ use lib.ListN.{length, take, drop, length-map, length-append}
 use lib.Seq.{take-at, drop-at}
 use lib.Ieee.{Float}
 use Rattle.sphericalpoint.specs.declared.SphericalPoint.{SphericalPoint}
-use Rattle.arcstring.specs.declared.vertex.Vertex.{Vertex}
-use Rattle.arcstring.specs.Answer.{unlessRefused}
+use Rattle.arcstring.specs.declared.inner.vertex.Vertex.{Vertex}
+use Rattle.arcstring_check.specs.Answer.{unlessRefused}
 use Rattle.arcstring.specs.Points.{itself, numbered, placeOf, placesOf, points}
 use Rattle.arcstring.specs.Positions.{positionsFrom, vertexAt}
-use Rattle.arcstring.specs.Check.{pointsCheck, lent}
-use Rattle.arcstring.specs.Walk.{withoutBuoys}
-use Rattle.arcstring.proofs.Answers.{map-unless, where-passed}
-use Rattle.arcstring.proofs.Checks.{stored-whole, string-stored, as-many-buoys, points-buoys, points-whole}
+use Rattle.arcstring_check.specs.Check.{pointsCheck, lent}
+use Rattle.arcstring.specs.Written.{withoutBuoys}
+use Rattle.arcstring_check.proofs.Answers.{map-unless, where-passed}
+use Rattle.arcstring_check.proofs.Checks.{stored-whole, string-stored, as-many-buoys, points-buoys, points-whole}
 use Rattle.arcstring.proofs.Flat.{count-points, length-points, points-append}
 use Rattle.arcstring.proofs.Moves.{length-positions}
 use Rattle.arcstring.proofs.Numbered.{all-places, all-positions, length-numbered, numbered-append}

@@ -9,13 +9,11 @@ use lib.ListN.{length, getD, take}
 use lib.Seq.{length-take-le}
 use lib.Ieee.{Float}
 use borrow.Author.Tests.{ltb-true}
-use Rattle.arcstring.specs.Answer.{pick}
+use Rattle.arcstring_check.specs.Answer.{pick}
 use Rattle.arcstring.specs.Points.{points, pointAt, noPoint}
-use Rattle.arcstring.proofs.Flat.{length-points, point-at}
 use Rattle.arcstring.specs.Work.{firstOfList}
-use Rattle.arcstring_crossing.specs.Crossing.{leg}
-use Rattle.arcstring_crossing.specs.Leg.{legAt}
-use Rattle.arcstring_measure.specs.Measure.{positionAfter}
+use Rattle.arcstring.specs.Leg.{leg, legAt, positionAfter}
+use Rattle.arcstring.proofs.Flat.{length-points, point-at}
 use Rattle.arcstring_insert.specs.Steps.{legFrom}
 
 module _ (v : List Float) (n k : ℕ) (whole : length v ≡ 3 * n) (within : k < n) where

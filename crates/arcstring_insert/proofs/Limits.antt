@@ -4,11 +4,9 @@ use mathlib.Core.Bool.{Bool, true, false}
 use Prim.Native.Nat.{ℕ}
 use native.Mathlib.Omega.{arith}
 use lib.Dec.{ltb}
-use Rattle.arcstring.specs.Answer.{Answer, answered, unlessRefused, andThen, numberIf}
+use Rattle.arcstring_check.specs.Answer.{Answer, answered, unlessRefused, andThen, numberIf}
+use Rattle.arcstring_check.specs.Check.{mostPoints}
 use Rattle.arcstring_insert.specs.Steps.{limited}
-
-pub same-answer : {A : Type 0} (x y : A) → answered x ≡ answered y → x ≡ y
-same-answer x y h = cc
 
 module _ {A B : Type 0} (x : A) (f : A → Answer B) (y : B) where
   past-by : (t : Bool) → andThen (unlessRefused (numberIf t 3) (answered x)) f ≡ answered y → f x ≡ answered y
@@ -17,7 +15,7 @@ module _ {A B : Type 0} (x : A) (f : A → Answer B) (y : B) where
 
   pub past-limit : (size : ℕ) → andThen (limited size x) f ≡ answered y → f x ≡ answered y
   unfolding limited
-  past-limit size h = past-by (ltb 1024 size) h
+  past-limit size h = past-by (ltb mostPoints size) h
 
 pub within-limit : {A : Type 0} (x y : A) (size : ℕ) → limited size x ≡ answered y → x ≡ y
-within-limit {A} x y size h = same-answer x y (past-limit x answered y size (ap (λ (a : Answer A). andThen a answered) h))
+within-limit {A} x y size h = let e : answered x ≡ answered y = past-limit x answered y size (ap (λ (a : Answer A). andThen a answered) h) in cc

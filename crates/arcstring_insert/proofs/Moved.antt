@@ -1,4 +1,4 @@
--- Laws of numbers that go one place further, from the last on. Assumes nothing.
+-- Numbers moved one place further, the last one first: one step of the loop, and a number written before them. Assumes nothing.
 use mathlib.Core.Path.{_≡_, sym, ap, ap₂, _∙_}
 use mathlib.Core.List.{List, [], _∷_, _++_, append-assoc}
 use Prim.Native.Nat.{ℕ, suc, _+_, _-_, _≤_, _<_}
@@ -31,10 +31,18 @@ pub moved-step : (old list : List ℕ) (m i : ℕ) → 1 ≤ i → i ≤ m → m
     set list i (getD list (i - 1) 0) ≡ splice old (i - 1 + 1) (take (m - (i - 1)) (drop (i - 1) old))
 moved-step old list m i some h room e =
     let run = take (m - i) (drop i old) in
-    let x : getD list (i - 1) 0 ≡ getD old (i - 1) 0 = ap (λ (l : List ℕ). getD l (i - 1) 0) e ∙ getD-before-splice old (i + 1) run (i - 1) 0 (omega arith) (omega arith) in
+    let x : getD list (i - 1) 0 ≡ getD old (i - 1) 0 =
+    ap (λ (l : List ℕ). getD l (i - 1) 0) e ∙ getD-before-splice old (i + 1) run (i - 1) 0 (omega arith) (omega arith) in
     let s : suc (i - 1) ≡ i = omega arith in
     let d : drop (i - 1) old ≡ getD old (i - 1) 0 ∷ drop i old = drop-cons old (i - 1) 0 (omega arith) ∙ ap (λ (z : ℕ). getD old (i - 1) 0 ∷ drop z old) s in
     let n : m - (i - 1) ≡ suc (m - i) = omega arith in
     let a : i - 1 + 1 ≡ i = omega arith in
     ap₂ (λ (l : List ℕ) (y : ℕ). set l i y) e x ∙ set-before old i run (getD old (i - 1) 0) (omega arith)
     ∙ sym (ap₂ (splice old) a (ap₂ take n d))
+
+-- a number written before them
+pub put-before : (old list : List ℕ) (n i k x : ℕ) → i ≡ k → k ≤ n → n < length old → list ≡ splice old (i + 1) (take (n - i) (drop i old))
+    → set list k x ≡ splice old k (x ∷ take (n - k) (drop k old))
+put-before old list n i k x end within room before =
+    ap (λ (l : List ℕ). set l k x) (before ∙ ap (λ (j : ℕ). splice old (j + 1) (take (n - j) (drop j old))) end)
+    ∙ set-before old k (take (n - k) (drop k old)) x (omega arith)

@@ -6,10 +6,11 @@ use Prim.Native.Nat.{ℕ, zero, suc, _+_}
 use lib.ListN.{length, take, drop, length-map}
 use lib.Dec.{ltb}
 use Rattle.sphericalpoint.specs.declared.SphericalPoint.{SphericalPoint}
-use Rattle.arcstring.specs.Answer.{Answer, answered, mapAnswer, andThen, numberIf, pick}
-use Rattle.arcstring.proofs.Answers.{map-unless, map-then}
+use Rattle.arcstring_check.specs.Answer.{Answer, answered, mapAnswer, andThen, numberIf, pick}
+use Rattle.arcstring.specs.Leg.{legCount}
+use Rattle.arcstring_check.specs.Check.{mostPoints}
+use Rattle.arcstring_check.proofs.Answers.{map-unless, map-then}
 use Rattle.arcstring.proofs.Numbered.{map-take, map-drop}
-use Rattle.arcstring_crossing.specs.Leg.{legCount}
 use Rattle.arcstring_along.specs.OnString.{alongLeg}
 use Rattle.arcstring_insert.specs.Steps.{forEach, forPositions, legFrom, limited}
 use Rattle.arcstring_insert.specs.Insert.{insertAt, insertWalk, insertPoint, inserted}
@@ -19,7 +20,7 @@ use Rattle.arcstring_insert.specs.Insert.{insertAt, insertWalk, insertPo
 module _ {A B : Type 0} (g : A → B) where
   pub map-limited : (n : ℕ) (x : A) → mapAnswer g (limited n x) ≡ limited n (g x)
   unfolding limited
-  map-limited n x = map-unless g (numberIf (ltb 1024 n) 3) (answered x)
+  map-limited n x = map-unless g (numberIf (ltb mostPoints n) 3) (answered x)
 
   pub map-picked : (b : Bool) (x y : Answer A) → mapAnswer g (pick b x y) ≡ pick b (mapAnswer g x) (mapAnswer g y)
   map-picked true x y = refl

@@ -1,16 +1,17 @@
--- Vertices moved one place further, the last one first: one step of the loop, and a point written before them; numbers likewise. Assumes nothing.
-use mathlib.Core.Path.{_≡_, sym, ap, _∙_}
+-- Parts written one right before the other, and vertices moved one place further, the last one first: one step of the loop, and a point written before them.
+-- Assumes nothing.
+use mathlib.Core.Path.{_≡_, refl, sym, ap, _∙_}
 use mathlib.Core.List.{List, [], _∷_, _++_, append-assoc}
 use Prim.Native.Nat.{ℕ, zero, suc, _+_, _-_, _*_, _≤_, _<_}
 use native.Mathlib.Omega.{arith}
-use lib.ListN.{length, getD, take, drop, set, length-append, length-drop}
+use lib.ListN.{length, getD, take, drop, length-append, length-drop}
 use lib.Seq.{length-take-le, take-nil, take-append-le, take-take, drop-at, take-add, drop-drop, getD-take}
 use lib.Ieee.{Float, nan}
 use Rattle.sphericalpoint.specs.declared.SphericalPoint.{SphericalPoint}
 use Rattle.arcstring.specs.Points.{pointAt}
 use Rattle.arcstring.specs.Splice.{splice}
 use Rattle.arcstring.proofs.Flat.{take-next, point-at-drop}
-use Rattle.arcstring.proofs.Splices.{length-splice, take-splice, splice-nothing, set-splice}
+use Rattle.arcstring.proofs.Splices.{take-splice, splice-nothing}
 
 abbrev pub floats : SphericalPoint → List Float
 floats p = p .x ∷ p .y ∷ p .z ∷ []
@@ -33,17 +34,25 @@ module _ {A : Type 0} where
       let m : next + length xs ≡ at + length (ys ++ xs) = omega (arith, length-append ys xs) in
       rw (t, d) (ap (λ (l : List A). take at old ++ l) (sym (append-assoc ys xs (drop (next + length xs) old)) ∙ ap (λ (j : ℕ). (ys ++ xs) ++ drop j old) m))
 
+  -- so a part written right before what was moved: `run` stands there, and with the part before it all is `whole`
+  pub moved-before : (old mid last : List A) (at next : ℕ) (part run whole : List A) → next ≡ at + length part → next ≤ length old
+      → mid ≡ splice old next run → last ≡ splice mid at part → part ++ run ≡ whole → last ≡ splice old at whole
+  moved-before old mid last at next part run whole e room before after all =
+      after ∙ ap (λ (l : List A). splice l at part) before ∙ splice-before old at part run next e room ∙ ap (splice old at) all
+
   -- what lies before the part stays
   pub getD-before-splice : (old : List A) (at : ℕ) (new : List A) (i : ℕ) (d : A) → at ≤ length old → i < at → getD (splice old at new) i d ≡ getD old i d
   getD-before-splice old at new i d h l =
       sym (getD-take at (splice old at new) i d l) ∙ ap (λ (m : List A). getD m i d) (take-splice old at new h) ∙ getD-take at old i d l
 
-pub point-before-splice : (old : List Float) (at : ℕ) (new : List Float) (k : ℕ) → at ≤ length old → 3 * k + 3 ≤ at → pointAt (splice old at new) k ≡ pointAt old k
+point-before-splice : (old : List Float) (at : ℕ) (new : List Float) (k : ℕ) → at ≤ length old → 3 * k + 3 ≤ at → pointAt (splice old at new) k ≡ pointAt old k
 point-before-splice old at new k h l =
-    rw (getD-before-splice old at new (3 * k) nan h (omega arith), getD-before-splice old at new (3 * k + 1) nan h (omega arith), getD-before-splice old at new (3 * k + 2) nan h (omega arith))
+    let same : (i : ℕ) → i < at → getD (splice old at new) i nan ≡ getD old i nan = λ i m. getD-before-splice old at new i nan h m in
+    rw (same (3 * k) (omega arith), same (3 * k + 1) (omega arith), same (3 * k + 2) (omega arith))
 
 -- the first of so many vertices, and the others
-first-vertex : (w : List Float) (j m : ℕ) → 3 * j + 3 ≤ length w → take (3 * (m + 1)) (drop (3 * j) w) ≡ floats (pointAt w j) ++ take (3 * m) (drop (3 * (j + 1)) w)
+first-vertex : (w : List Float) (j m : ℕ) → 3 * j + 3 ≤ length w
+    → take (3 * (m + 1)) (drop (3 * j) w) ≡ floats (pointAt w j) ++ take (3 * m) (drop (3 * (j + 1)) w)
 first-vertex w j m h =
     let e : 3 * (m + 1) ≡ 3 + 3 * m = omega arith in
     let f : 3 * j + 3 ≡ 3 * (j + 1) = omega arith in
@@ -78,27 +87,12 @@ shift-step old mid last n i p some within room before read after =
     ∙ ap (λ (k : ℕ). floats (pointAt old (i - 1)) ++ take (3 * (n - i)) (drop (3 * k) old)) (sym j)
     ∙ sym (first-vertex old (i - 1) (n - i) (omega arith))
     ∙ ap (λ (k : ℕ). take (3 * k) (drop (3 * (i - 1)) old)) m in
-    after
-    ∙ ap (λ (l : List Float). splice l (3 * i) (floats p)) before
-    ∙ splice-before old (3 * i) (floats p) xs (3 * (i + 1)) (omega arith) (omega arith)
-    ∙ ap (splice old (3 * i)) both
+    moved-before old mid last (3 * i) (3 * (i + 1)) (floats p) xs _ (omega arith) (omega arith) before after both
     ∙ ap (λ (k : ℕ). splice old (3 * k) (take (3 * (n - (i - 1))) (drop (3 * (i - 1)) old))) (sym j)
 
 -- a point written before them
 pub shift-all : (old mid last : List Float) (n i k : ℕ) (p : SphericalPoint) → i ≡ k → k ≤ n → 3 * n + 3 ≤ length old → mid ≡ shifted old n i
     → last ≡ splice mid (3 * k) (floats p) → last ≡ splice old (3 * k) (floats p ++ take (3 * (n - k)) (drop (3 * k) old))
 shift-all old mid last n i k p end within room before after =
-    after
-    ∙ ap (λ (l : List Float). splice l (3 * k) (floats p)) (before ∙ ap (shifted old n) end)
-    ∙ splice-before old (3 * k) (floats p) (take (3 * (n - k)) (drop (3 * k) old)) (3 * (k + 1)) (omega arith) (omega arith)
-
--- a number written before numbers that were moved one place further
-pub put-before : (old list : List ℕ) (n i k x : ℕ) → i ≡ k → k ≤ n → n < length old → list ≡ splice old (i + 1) (take (n - i) (drop i old))
-    → set list k x ≡ splice old k (x ∷ take (n - k) (drop k old))
-put-before old list n i k x end within room before =
-    let run = take (n - k) (drop k old) in
-    let l : length run ≡ n - k = length-take-le (n - k) (drop k old) (rw length-drop (omega arith)) in
-    let same : length (splice old (k + 1) run) ≡ length old = length-splice old (k + 1) run (omega arith) in
-    ap (λ (m : List ℕ). set m k x) (before ∙ ap (λ (j : ℕ). splice old (j + 1) (take (n - j) (drop j old))) end)
-    ∙ set-splice (splice old (k + 1) run) k x (omega arith)
-    ∙ splice-before old k (x ∷ []) run (k + 1) (omega arith) (omega arith)
+    moved-before old mid last (3 * k) (3 * (k + 1)) (floats p) (take (3 * (n - k)) (drop (3 * k) old)) _ (omega arith) (omega arith)
+    (before ∙ ap (shifted old n) end) after refl

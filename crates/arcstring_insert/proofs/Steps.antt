@@ -9,13 +9,14 @@ use lib.ListN.{length, getD, drop, drop-of-length-le}
 use lib.Seq.{drop-cons}
 use lib.Ieee.{Float}
 use borrow.Author.Tests.{lt-ltb, le-ltb}
-use Rattle.arcstring.specs.declared.vertex.Vertex.{Vertex}
-use Rattle.arcstring.specs.Answer.{Answer, refused, answered, unlessRefused, andThen, numberIf}
+use Rattle.arcstring.specs.declared.inner.vertex.Vertex.{Vertex}
+use Rattle.arcstring_check.specs.Answer.{Answer, refused, answered, unlessRefused, andThen, numberIf}
 use Rattle.arcstring.specs.Points.{numbered, points}
 use Rattle.arcstring.specs.Positions.{vertexAt}
+use Rattle.arcstring_check.specs.Check.{mostPoints}
 use Rattle.arcstring.proofs.Flat.{points-next}
 use Rattle.arcstring.proofs.Numbered.{numbered-drop}
-use Rattle.arcstring.proofs.Answers.{then-refused, then-answered}
+use Rattle.arcstring_check.proofs.Answers.{then-refused, then-answered}
 use Rattle.arcstring_insert.specs.Steps.{forEach, forPositions, limited}
 
 -- ---- a step for each element of a list, from element i on
@@ -64,10 +65,10 @@ module _ {B : Type 0} (f : ℕ → B → Answer B) (k m : ℕ) (x : B) where
 -- ---- the check of a result
 
 module _ {A : Type 0} (size : ℕ) (x : A) where
-  pub over-limit : 1024 < size → limited size x ≡ refused 3
+  pub over-limit : mostPoints < size → limited size x ≡ refused 3
   unfolding limited
-  over-limit h = ap (λ (b : Bool). unlessRefused (numberIf b 3) (answered x)) (lt-ltb 1024 size h)
+  over-limit h = ap (λ (b : Bool). unlessRefused (numberIf b 3) (answered x)) (lt-ltb mostPoints size h)
 
-  pub at-most-limit : size ≤ 1024 → limited size x ≡ answered x
+  pub at-most-limit : size ≤ mostPoints → limited size x ≡ answered x
   unfolding limited
-  at-most-limit h = ap (λ (b : Bool). unlessRefused (numberIf b 3) (answered x)) (le-ltb 1024 size h)
+  at-most-limit h = ap (λ (b : Bool). unlessRefused (numberIf b 3) (answered x)) (le-ltb mostPoints size h)

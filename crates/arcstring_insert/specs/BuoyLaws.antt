@@ -6,11 +6,11 @@ use mathlib.Core.List.{List, _++_, map}
 use Prim.Native.Nat.{ℕ, _/_}
 use lib.ListN.{length}
 use lib.Ieee.{Float}
-use Rattle.arcstring.specs.Answer.{unlessRefused, mapAnswer}
+use Rattle.arcstring_check.specs.Answer.{unlessRefused, mapAnswer}
 use Rattle.arcstring.specs.Points.{itself, points, pointAt}
 use Rattle.arcstring.specs.Positions.{positionsFrom, vertexAt}
-use Rattle.arcstring.specs.Check.{pointsCheck, lent}
-use Rattle.arcstring.specs.Walk.{withoutBuoys}
+use Rattle.arcstring_check.specs.Check.{pointsCheck, lent}
+use Rattle.arcstring.specs.Written.{withoutBuoys}
 use Rattle.arcstring_insert.specs.Insert.{inserted, insertVertices}
 
 -- ---- the numbers taken off: the call over points, after the same checks

@@ -5,11 +5,11 @@ use Prim.Native.Nat.{ℕ, zero, suc, _+_}
 use lib.ListN.{length, take, drop}
 use lib.Ieee.{Float}
 use Rattle.sphericalpoint.specs.declared.SphericalPoint.{SphericalPoint}
-use Rattle.arcstring.specs.Answer.{Answer, answered, unlessRefused, andThen, pick}
-use Rattle.arcstring.specs.declared.vertex.Vertex.{Vertex}
+use Rattle.arcstring_check.specs.Answer.{Answer, answered, unlessRefused, andThen, pick}
+use Rattle.arcstring.specs.declared.inner.vertex.Vertex.{Vertex}
 use Rattle.arcstring.specs.Points.{numbered, placeOf, points}
-use Rattle.arcstring.specs.Check.{pointsCheck, lent}
-use Rattle.arcstring_crossing.specs.Leg.{legCount}
+use Rattle.arcstring_check.specs.Check.{pointsCheck, lent}
+use Rattle.arcstring.specs.Leg.{legCount}
 use Rattle.arcstring_along.specs.OnString.{alongLeg}
 use Rattle.arcstring_insert.specs.Steps.{forEach, legFrom, limited}
 

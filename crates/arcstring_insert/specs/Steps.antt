@@ -5,11 +5,10 @@ use lib.ListN.{length, getD}
 use lib.Dec.{ltb}
 use lib.Ieee.{Float}
 use Rattle.sphericalpoint.specs.declared.SphericalPoint.{SphericalPoint}
-use Rattle.arcstring.specs.Answer.{Answer, answered, unlessRefused, andThen, numberIf}
+use Rattle.arcstring_check.specs.Answer.{Answer, answered, unlessRefused, andThen, numberIf}
 use Rattle.arcstring.specs.Points.{noPoint}
-use Rattle.arcstring.specs.Check.{listCheck}
-use Rattle.arcstring_crossing.specs.Crossing.{Leg, leg}
-use Rattle.arcstring_measure.specs.Measure.{positionAfter}
+use Rattle.arcstring_check.specs.Check.{listCheck, mostPoints}
+use Rattle.arcstring.specs.Leg.{Leg, leg, positionAfter}
 
 -- a step for each element of a list, in turn
 unfoldable pub forEach : {A B : Type 0} → (A → B → Answer B) → List A → B → Answer B
@@ -31,4 +30,4 @@ extraCheck v = listCheck 0 v
 
 -- 3: a result that holds so many points is over 1,024
 unfoldable pub limited : {A : Type 0} → ℕ → A → Answer A
-limited size x = unlessRefused (numberIf (ltb 1024 size) 3) (answered x)
+limited size x = unlessRefused (numberIf (ltb mostPoints size) 3) (answered x)

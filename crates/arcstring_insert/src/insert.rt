@@ -3,36 +3,26 @@ ghost use mathlib.Core.Path.{_≡_};
 ghost use mathlib.Core.List.{_∷_};
 ghost use Prim.Native.Nat.{_+_, _-_, _*_, _≤_, _<_};
 ghost use lib.ListN.{length, take, drop};
-ghost use Rattle.arcstring.specs.Answer.{leaves, andThen};
+ghost use Rattle.arcstring_check.specs.Answer.{leaves, andThen};
 ghost use Rattle.arcstring.specs.Points.{numbered, placeOf, points};
 ghost use Rattle.arcstring.specs.Splice.{splice};
-ghost use Rattle.arcstring.specs.Check.{intoRooms};
-ghost use Rattle.arcstring.specs.Walk.{writtenAnswer, writtenResult, writtenFloats, withoutBuoys, writtenBuoys};
+ghost use Rattle.arcstring_check.specs.Check.{mostPoints, intoRooms};
+ghost use Rattle.arcstring.specs.Written.{writtenAnswer, writtenResult, writtenFloats, withoutBuoys, writtenBuoys};
 ghost use Rattle.arcstring.specs.Work.{heldCount};
 ghost use Rattle.arcstring.specs.Work as Work;
 ghost use Rattle.arcstring_insert.specs.Insert.{inserted, insertPoint, insertVertices};
-use arcstring::check;
-use arcstring::check::Checked;
-use arcstring::check::Refusal;
-use arcstring::vertex;
-use arcstring::vertex::Vertex;
-use arcstring::walk::Written;
-use arcstring_along::on_string;
-use arcstring_crossing::leg;
+use crate::inner;
+use arcstring::inner::leg;
+use arcstring::inner::vertex;
+use arcstring::inner::vertex::Vertex;
+use arcstring_along::inner::along;
+use arcstring_check::check::Checked;
+use arcstring_check::check::MOST_FLOATS;
+use arcstring_check::check::MOST_POINTS;
+use arcstring_check::check::Refusal;
+use arcstring_check::check::Written;
+use arcstring_check::inner::checks;
 use sphericalpoint::SphericalPoint;
-
-// A point put in as vertex k of n; those from k on stand one place further.
-pub fn insert_vertex(work: &mut [f64], n: usize, k: usize, p: SphericalPoint)
-    requires { ⌜ (k ≤ n) × (3 * n + 3 ≤ length (now work)) ⌝ }
-    ensures { λ _. ⌜ now (work .exit) ≡ splice (now (work .entry)) (3 * k) (p .x ∷ p .y ∷ p .z ∷ take (3 * (n - k)) (drop (3 * k) (now (work .entry)))) ⌝ }
-{
-    let mut i = n;
-    while i > k {
-        vertex::put_vertex(work, i, vertex::vertex_at(work, i - 1));
-        i -= 1;
-    }
-    vertex::put_vertex(work, k, p);
-}
 
 // A number put in as the k-th of n; those from k on stand one place further.
 fn insert_buoy(buoys: &mut [u32], n: usize, k: usize, buoy: u32)
@@ -50,8 +40,10 @@ fn insert_buoy(buoys: &mut [u32], n: usize, k: usize, buoy: u32)
 // One point put in before the start of each leg of the first n vertices of `work` that it is along, its number likewise in
 // `buoys`. After an insertion the walk goes on two places further.
 fn insert_point(work: &mut [f64], buoys: &mut [u32], n: usize, closed: bool, x: Vertex) -> Written
-    requires { ⌜ (1 ≤ n) × (n ≤ 1024) × (length (now work) ≡ 3072) × (length (now buoys) ≡ 1024) ⌝ }
-    ensures { λ r. ⌜ (Work.held r (numbered (points (now (work .exit))) (now (buoys .exit))) ≡ insertPoint placeOf closed x (take n (numbered (points (now (work .entry))) (now (buoys .entry))))) × (heldCount r ≤ 1024) ⌝ }
+    requires { ⌜ (1 ≤ n) × (n ≤ mostPoints) × (length (now work) ≡ 3 * mostPoints) × (length (now buoys) ≡ mostPoints) ⌝ }
+    ensures { λ r. ⌜ (Work.held r (numbered (points (now (work .exit))) (now (buoys .exit)))
+        ≡ insertPoint placeOf closed x (take n (numbered (points (now (work .entry))) (now (buoys .entry)))))
+        × (heldCount r ≤ mostPoints) ⌝ }
 {
     let legs = leg::leg_count(n, closed);
     let mut m = n;
@@ -60,14 +52,14 @@ fn insert_point(work: &mut [f64], buoys: &mut [u32], n: usize, closed: bool, x: 
     while i < legs {
         i += 1;
         let end = 3 * m;
-        if !on_string::along_leg_at(x.place, &work[..end], m, k) {
+        if !along::along_leg_at(x.place, &work[..end], m, k) {
             k += 1;
             continue;
         }
-        if m == 1024 {
+        if m == MOST_POINTS {
             return Written::Refused(Refusal::TooManyPoints);
         }
-        insert_vertex(work, m, k, x.place);
+        inner::insert_vertex(work, m, k, x.place);
         insert_buoy(buoys, m, k, x.buoy);
         m += 1;
         k += 2;
@@ -84,8 +76,12 @@ fn insert_points(
     extra: &[f64],
     extra_buoys: &[u32],
 ) -> Written
-    requires { ⌜ (1 ≤ n) × (n ≤ 1024) × (length (now work) ≡ 3072) × (length (now buoys) ≡ 1024) × (length (now extra) ≡ 3 * length (now «extra_buoys»)) ⌝ }
-    ensures { λ r. ⌜ (Work.held r (numbered (points (now (work .exit))) (now (buoys .exit))) ≡ inserted placeOf closed (numbered (points (now (extra .entry))) (now («extra_buoys» .entry))) (take n (numbered (points (now (work .entry))) (now (buoys .entry))))) × (heldCount r ≤ 1024) ⌝ }
+    requires { ⌜ (1 ≤ n) × (n ≤ mostPoints) × (length (now work) ≡ 3 * mostPoints) × (length (now buoys) ≡ mostPoints)
+        × (length (now extra) ≡ 3 * length (now «extra_buoys»)) ⌝ }
+    ensures { λ r. ⌜ (Work.held r (numbered (points (now (work .exit))) (now (buoys .exit)))
+        ≡ inserted placeOf closed (numbered (points (now (extra .entry))) (now («extra_buoys» .entry)))
+        (take n (numbered (points (now (work .entry))) (now (buoys .entry)))))
+        × (heldCount r ≤ mostPoints) ⌝ }
 {
     let mut m = n;
     let mut i = 0;
@@ -111,9 +107,17 @@ fn hand_over(
     out_buoys: &mut [u32],
 ) -> Written
     requires { ⌜ (3 * heldCount held ≤ length (now work)) × (heldCount held ≤ length (now buoys)) ⌝ }
-    ensures { λ r. ⌜ writtenAnswer r ≡ writtenResult (andThen (Work.held held (numbered (points (now (work .entry))) (now (buoys .entry)))) (intoRooms (length (now (out .entry))) (length (now («out_buoys» .entry))))) ⌝ }
-    ensures { λ _. ⌜ now (out .exit) ≡ leaves (writtenFloats (withoutBuoys (andThen (Work.held held (numbered (points (now (work .entry))) (now (buoys .entry)))) (intoRooms (length (now (out .entry))) (length (now («out_buoys» .entry))))))) (now (out .entry)) ⌝ }
-    ensures { λ _. ⌜ now («out_buoys» .exit) ≡ leaves (writtenBuoys (andThen (Work.held held (numbered (points (now (work .entry))) (now (buoys .entry)))) (intoRooms (length (now (out .entry))) (length (now («out_buoys» .entry)))))) (now («out_buoys» .entry)) ⌝ }
+    ensures { λ r. ⌜ writtenAnswer r ≡ writtenResult
+        (andThen (Work.held held (numbered (points (now (work .entry))) (now (buoys .entry))))
+        (intoRooms (length (now (out .entry))) (length (now («out_buoys» .entry))))) ⌝ }
+    ensures { λ _. ⌜ now (out .exit) ≡ leaves (writtenFloats (withoutBuoys
+        (andThen (Work.held held (numbered (points (now (work .entry))) (now (buoys .entry))))
+        (intoRooms (length (now (out .entry))) (length (now («out_buoys» .entry)))))))
+        (now (out .entry)) ⌝ }
+    ensures { λ _. ⌜ now («out_buoys» .exit) ≡ leaves (writtenBuoys
+        (andThen (Work.held held (numbered (points (now (work .entry))) (now (buoys .entry))))
+        (intoRooms (length (now (out .entry))) (length (now («out_buoys» .entry))))))
+        (now («out_buoys» .entry)) ⌝ }
 {
     match held {
         Written::Refused(e) => Written::Refused(e),
@@ -140,20 +144,28 @@ pub fn insert_vertices(
     out: &mut [f64],
     out_buoys: &mut [u32],
 ) -> Written
-    ensures { λ r. ⌜ writtenAnswer r ≡ writtenResult (insertVertices (now (v .entry)) (now (buoys .entry)) closed (now (extra .entry)) (now («extra_buoys» .entry)) (length (now (out .entry))) (length (now («out_buoys» .entry)))) ⌝ }
-    ensures { λ _. ⌜ now (out .exit) ≡ leaves (writtenFloats (withoutBuoys (insertVertices (now (v .entry)) (now (buoys .entry)) closed (now (extra .entry)) (now («extra_buoys» .entry)) (length (now (out .entry))) (length (now («out_buoys» .entry)))))) (now (out .entry)) ⌝ }
-    ensures { λ _. ⌜ now («out_buoys» .exit) ≡ leaves (writtenBuoys (insertVertices (now (v .entry)) (now (buoys .entry)) closed (now (extra .entry)) (now («extra_buoys» .entry)) (length (now (out .entry))) (length (now («out_buoys» .entry))))) (now («out_buoys» .entry)) ⌝ }
+    ensures { λ r. ⌜ writtenAnswer r ≡ writtenResult
+        (insertVertices (now (v .entry)) (now (buoys .entry)) closed (now (extra .entry)) (now («extra_buoys» .entry))
+        (length (now (out .entry))) (length (now («out_buoys» .entry)))) ⌝ }
+    ensures { λ _. ⌜ now (out .exit) ≡ leaves (writtenFloats (withoutBuoys
+        (insertVertices (now (v .entry)) (now (buoys .entry)) closed (now (extra .entry)) (now («extra_buoys» .entry))
+        (length (now (out .entry))) (length (now («out_buoys» .entry))))))
+        (now (out .entry)) ⌝ }
+    ensures { λ _. ⌜ now («out_buoys» .exit) ≡ leaves (writtenBuoys
+        (insertVertices (now (v .entry)) (now (buoys .entry)) closed (now (extra .entry)) (now («extra_buoys» .entry))
+        (length (now (out .entry))) (length (now («out_buoys» .entry)))))
+        (now («out_buoys» .entry)) ⌝ }
 {
-    let checked = check::first_of(
-        check::check_string(v, buoys),
-        check::check_points(extra, extra_buoys),
+    let checked = checks::first_of(
+        checks::check_string(v, buoys),
+        checks::check_points(extra, extra_buoys),
     );
     if let Checked::Refused(e) = checked {
         return Written::Refused(e);
     }
     let n = v.len() / 3;
-    let mut work = [0.0; 3072];
-    let mut numbers = [0; 1024];
+    let mut work = [0.0; MOST_FLOATS];
+    let mut numbers = [0; MOST_POINTS];
     vertex::copy_run(v, 0, n, &mut work, 0);
     vertex::copy_buoys(buoys, 0, n, &mut numbers, 0);
     let inserted = insert_points(&mut work, &mut numbers, n, closed, extra, extra_buoys);

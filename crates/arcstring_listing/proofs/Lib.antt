@@ -1,9 +1,4 @@
--- The laws of counts and listings. For others to cite: `Tallies`, and how many pairs there are, `Rows`. The rest serves the functions' proofs.
-pub mod Tallies
-pub mod Rows
+-- The laws of listings. All serve the functions' proofs.
 mod Bounds
-mod Sifted
-mod Walks
 mod Listings
-mod Marks
 mod Visits

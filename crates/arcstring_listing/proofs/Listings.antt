@@ -1,6 +1,6 @@
 -- What a listing call answers and leaves in its two buffers, where a check refuses, where there is no room, and where it is written. Assumes nothing.
 use mathlib.Core.Path.{_≡_, refl, sym, ap, ap₂, _∙_}
-use mathlib.Core.List.{List, [], _++_, map, map-map}
+use mathlib.Core.List.{List, [], _++_, map, map-map, _∷_}
 use Prim.Native.Nat.{ℕ, _+_, _*_, _≤_}
 use native.Mathlib.Omega.{arith}
 use lib.ListN.{length, take, drop, length-map}
@@ -8,39 +8,25 @@ use lib.Seq.{take-at, drop-at}
 use lib.Ieee.{Float}
 use Rattle.sphericalpoint.specs.declared.SphericalPoint.{SphericalPoint}
 use Rattle.sphericalpoint.specs.Point.{normalizedUnlessShort}
-use Rattle.arcstring.specs.declared.check.Refusal.{Refusal}
-use Rattle.arcstring.specs.declared.check.Checked.{Checked}
-use Rattle.arcstring.specs.declared.check.Checked.the-variants.{Accepted, Refused}
-use Rattle.arcstring.specs.Answer.{Answer, refused, answered, unlessRefused, firstOf, leaves, refusalNumber}
+use Rattle.arcstring_check.specs.declared.check.Refusal.{Refusal}
+use Rattle.arcstring_check.specs.declared.check.Checked.{Checked}
+use Rattle.arcstring_check.specs.declared.check.Checked.the-variants.{Accepted, Refused}
+use Rattle.arcstring_check.specs.Answer.{Answer, refused, answered, unlessRefused, firstOf, leaves, refusalNumber}
 use Rattle.arcstring.specs.Points.{points, flat}
 use Rattle.arcstring.specs.Splice.{splice}
-use Rattle.arcstring.specs.Check.{checkNumber, roomCheck}
-use Rattle.arcstring.specs.Build.{normalizedAll}
-use Rattle.arcstring.proofs.Answers.{pass, answer-refused-first, answer-accepted-first, first-passes, second-passes}
+use Rattle.arcstring_check.specs.Check.{checkNumber, roomCheck}
+use Rattle.arcstring_build.specs.Build.{normalizedAll}
+use Rattle.arcstring_check.proofs.Answers.{pass, refused-in-turn, accepted-in-turn, passed-in-turn}
 use Rattle.arcstring.proofs.Flat.{points-flat, length-flat}
-use Rattle.arcstring.proofs.Rooms.{room-fits, room-enough}
+use Rattle.arcstring_check.proofs.Rooms.{room-fits, room-enough}
 use Rattle.arcstring.proofs.Splices.{splice-start, splice-front, splice-nothing}
-use Rattle.arcstring_crossing.specs.declared.crossing.Pair.{Pair}
-use Rattle.arcstring_listing.specs.declared.listing.Counts.{Counts}
-use Rattle.arcstring_listing.specs.declared.tally.Tally.{Tally}
-use Rattle.arcstring_listing.specs.Listing.{
-  keptMarks,
-  markPoint,
-  markByte,
-  countsOf,
-  Listing,
-  listingOf,
-  normalizedListing,
-  inRoom,
-  listedResult,
-  listedFloats,
-  listedBytes,
-}
-use Rattle.arcstring_listing.specs.Tally.{noTally, tallyOn, tallyCounts}
-use Rattle.arcstring_listing.proofs.Tallies.{tally-kept, tally-counts}
-
-pub both-accepted : (k : Checked) (m n : ℕ) → k ≡ Accepted → checkNumber k ≡ firstOf m n → (m ≡ 0) × (n ≡ 0)
-both-accepted k m n told number = let z = sym number ∙ ap checkNumber told in (first-passes m n z, second-passes m n z)
+use Rattle.arcstring_pair.specs.declared.pair.Pair.{Pair}
+use Rattle.arcstring_tally.specs.declared.counts.Counts.{Counts}
+use Rattle.arcstring_tally.specs.declared.inner.tally.Tally.{Tally}
+use Rattle.arcstring_tally.specs.Pairs.{keptMarks, markPoint, markByte, countsOf}
+use Rattle.arcstring_listing.specs.Listing.{Listing, listingOf, normalizedListing, inRoom, listedResult, listedFloats, listedBytes}
+use Rattle.arcstring_tally.specs.Tally.{noTally, tallyOn, tallyCounts}
+use Rattle.arcstring_tally.proofs.Tallies.{tally-kept, tally-counts}
 
 -- a call's answer and what it leaves in the buffers, as the listing x has it
 abbrev pub Leaves : Answer Listing → Answer (ℕ × Counts) → List Float → List Float → List ℕ → List ℕ → Type 0
@@ -143,7 +129,7 @@ module _ (ps : List Pair) (l : Listing) (lists : Lists ps l) (t : Tally) (count 
   unfolding inRoom
   no-room-leaves e x h told =
       refused-leaves (refusalNumber e) x points marks
-      (answer-refused-first k e (roomCheck (3 * length (l .marks)) (length points)) (roomCheck (length (l .marks)) (length marks)) (answered l) told
+      (refused-in-turn k e (roomCheck (3 * length (l .marks)) (length points)) (roomCheck (length (l .marks)) (length marks) ∷ []) (answered l) told
       room-number ∙ h)
 
   pub listing-leaves : (c : Counts) (x : Answer Listing) (points' : List Float) (marks' : List ℕ) → inRoom l (length points) (length marks) ≡ x → k ≡ Accepted
@@ -153,7 +139,7 @@ module _ (ps : List Pair) (l : Listing) (lists : Lists ps l) (t : Tally) (count 
   unfolding inRoom
   listing-leaves c x points' marks' h told hc hp hm =
       written-leaves l x (t .kept) c points points' marks marks'
-      (answer-accepted-first k (roomCheck (3 * length (l .marks)) (length points)) (roomCheck (length (l .marks)) (length marks)) (answered l) told
+      (accepted-in-turn k (roomCheck (3 * length (l .marks)) (length points)) (roomCheck (length (l .marks)) (length marks) ∷ []) (answered l) told
       room-number ∙ h)
       kept-all
       (hc ∙ tally-counts t ps count ∙ sym (lists .same-counts))
@@ -162,7 +148,7 @@ module _ (ps : List Pair) (l : Listing) (lists : Lists ps l) (t : Tally) (count 
 
   pub room-for-kept : k ≡ Accepted → (3 * t .kept ≤ length points) × (t .kept ≤ length marks)
   room-for-kept told =
-      let both = both-accepted k (roomCheck (3 * t .kept) (length points)) (roomCheck (t .kept) (length marks)) told number in
+      let both = passed-in-turn k (roomCheck (3 * t .kept) (length points)) (roomCheck (t .kept) (length marks) ∷ []) told number in
       (room-fits (3 * t .kept) (length points) (both .0), room-fits (t .kept) (length marks) (both .1))
 
   pub room-for-all : k ≡ Accepted → (3 * length (keptMarks ps) ≤ length points) × (length (keptMarks ps) ≤ length marks)

@@ -8,18 +8,19 @@ use native.Mathlib.Omega.{arith}
 use lib.ListN.{length}
 use lib.Ieee.{Float}
 use Rattle.sphericalpoint.specs.declared.SphericalPoint.{SphericalPoint}
-use Rattle.arcstring.specs.Answer.{numberIf}
+use Rattle.arcstring_check.specs.Answer.{numberIf}
 use Rattle.arcstring.specs.Points.{points, flat}
-use Rattle.arcstring.specs.Check.{inRange, allInRange, pointCheck, listCheck, storedCheck}
-use Rattle.arcstring.proofs.Answers.{first-passes, second-passes}
-use Rattle.arcstring.proofs.Checks.{stored-whole}
+use Rattle.arcstring_check.specs.Check.{inRange, allInRange, pointCheck, listCheck, storedCheck}
+use Rattle.arcstring_check.proofs.Answers.{first-passes, second-passes}
+use Rattle.arcstring_check.proofs.Checks.{stored-whole}
 use Rattle.arcstring.proofs.Flat.{count-points}
-use Rattle.arcstring_crossing.specs.Crossing.{Leg, pairOf, legCheck}
-use Rattle.arcstring_crossing.specs.Leg.{legs, legsFrom, legCount, legFloats}
-use Rattle.arcstring_crossing.proofs.Legs.{legs-whole}
-use Rattle.arcstring_listing.specs.Listing.{pairsBetween, pairsWithin, visited, legPairs, selfPairs, keptMarks}
-use Rattle.arcstring_listing.proofs.Rows.{length-self, kept-between}
-use Rattle.arcstring_listing.proofs.Tallies.{kept-bound}
+use Rattle.arcstring.specs.Leg.{Leg, legCheck, legs, legsFrom, legCount, legFloats}
+use Rattle.arcstring_pair.specs.Pair.{pairOf}
+use Rattle.arcstring.proofs.Legs.{legs-whole}
+use Rattle.arcstring_tally.specs.Pairs.{pairsBetween, pairsWithin, keptMarks}
+use Rattle.arcstring_listing.specs.Listing.{visited, legPairs, selfPairs}
+use Rattle.arcstring_visit.proofs.Rows.{length-self, kept-between}
+use Rattle.arcstring_tally.proofs.Tallies.{kept-bound}
 
 module _ (v : List Float) (closed : Bool) (l : ℕ) (accepted : storedCheck v ≡ 0) (count : l ≡ legCount (length v / 3) closed) where
   all-legs : legsFrom v 0 l ≡ legs (points v) closed

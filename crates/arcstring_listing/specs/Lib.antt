@@ -1,3 +1,2 @@
--- The definitions of the pairs that two strings have, and a string with itself, their counts and listings. `Tally` serves inner contracts alone.
+-- The definitions of the counts and listings of two strings, of a leg and a string, and of a string with itself.
 pub mod Listing
-pub mod Tally

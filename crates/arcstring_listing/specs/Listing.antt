@@ -1,92 +1,23 @@
--- The visited pairs of two strings and of a string with itself, their counts and the kept points. Definitions only.
+-- The counts of the pairs that two strings have, and the listings of what they keep; of a leg and a string, and of a string with itself. Definitions only.
 use mathlib.Core.Bool.{Bool, false, _&&_}
-use mathlib.Core.List.{List, [], _∷_, _++_, map, filterMap}
-use mathlib.Core.Option.{Option, none, some}
-use Prim.Native.Nat.{ℕ, _+_, _*_, _%_}
-use lib.ListN.{length, drop}
+use mathlib.Core.List.{List, map}
+use Prim.Native.Nat.{ℕ, _*_, _%_}
+use lib.ListN.{length}
 use lib.Dec.{leb, eqb, ltb}
 use lib.Ieee.{Float}
-use Rattle.sphericalpoint.specs.declared.SphericalPoint.{SphericalPoint}
 use Rattle.sphericalpoint.specs.Point.{normalizedUnlessShort}
-use Rattle.arcstring.specs.Answer.{Answer, refused, answered, unlessRefused, mapAnswer, pick, flagNumber, refusalNumber}
+use Rattle.arcstring_check.specs.Answer.{Answer, refused, answered, unlessRefused, mapAnswer, refusalNumber}
 use Rattle.arcstring.specs.Points.{points, flat}
-use Rattle.arcstring.specs.Check.{storedCheck, roomCheck}
-use Rattle.arcstring_crossing.specs.declared.crossing.Pair.{Pair}
-use Rattle.arcstring_crossing.specs.Crossing.{Leg, pairOf, classNumber, judged, keptPoint, legCheck}
-use Rattle.arcstring_crossing.specs.Leg.{legs}
-use Rattle.arcstring_listing.specs.declared.listing.Counts.{Counts}
+use Rattle.arcstring_check.specs.Check.{storedCheck, roomCheck}
+use Rattle.arcstring_pair.specs.declared.pair.Pair.{Pair}
+use Rattle.arcstring.specs.Leg.{Leg, legCheck, legs}
+use Rattle.arcstring_pair.specs.Pair.{pairOf}
+use Rattle.arcstring_tally.specs.declared.counts.Counts.{Counts}
+use Rattle.arcstring_tally.specs.Pairs.{pairsBetween, pairsWithin, countsOf, Mark, keptMarks, markPoint, markByte}
 use Rattle.arcstring_listing.specs.declared.listing.Counted.{Counted}
 use Rattle.arcstring_listing.specs.declared.listing.Counted.the-variants as C
 use Rattle.arcstring_listing.specs.declared.listing.Listed.{Listed}
 use Rattle.arcstring_listing.specs.declared.listing.Listed.the-variants as L
-
--- ---- the visited pairs, in the sequence in which they are visited
-
--- every leg of the first with every leg of the second, leg by leg of the first
-unfoldable pub pairsBetween : List Leg → List Leg → List Pair
-pairsBetween [] bs = []
-pairsBetween (a ∷ ls) bs = map (pairOf a) bs ++ pairsBetween ls bs
-
--- each leg with every leg after the next one
-unfoldable pub pairsWithin : List Leg → List Pair
-pairsWithin [] = []
-pairsWithin (a ∷ ls) = map (pairOf a) (drop 1 ls) ++ pairsWithin ls
-
--- ---- the four counts: of the visited pairs, those of each class
-
--- 1 for a pair of the class that has the number, else 0
-abbrev pub ofClass : ℕ → Pair → ℕ
-ofClass n p = flagNumber (eqb (classNumber p) n)
-
-abbrev pub oneClean : Pair → ℕ
-oneClean p = ofClass 1 p
-
-abbrev pub oneEnd : Pair → ℕ
-oneEnd p = ofClass 2 p
-
-abbrev pub oneGrazing : Pair → ℕ
-oneGrazing p = ofClass 3 p
-
-abbrev pub oneApart : Pair → ℕ
-oneApart p = ofClass 4 p
-
-unfoldable pub total : {X : Type 0} → (X → ℕ) → List X → ℕ
-total g [] = 0
-total g (x ∷ xs) = g x + total g xs
-
-unfoldable pub countsOf : List Pair → Counts
-countsOf ps = record { clean = total oneClean ps; end = total oneEnd ps; grazing = total oneGrazing ps; apart = total oneApart ps }
-
--- ---- the kept points, each with its mark: 1 clean, 0 grazing
-
-pub record Mark : Type 0 where
-  pub point : SphericalPoint
-  pub byte : ℕ
-
-abbrev pub marked : ℕ → Option SphericalPoint → Option Mark
-marked class none = none
-marked class (some p) = some (record { point = p; byte = flagNumber (eqb class 1) })
-
-abbrev pub keptMark : Pair → Option Mark
-keptMark p = marked (classNumber p) (keptPoint (judged p))
-
-unfoldable pub keptMarks : List Pair → List Mark
-unfolding filterMap
-keptMarks ps = filterMap keptMark ps
-
-abbrev pub markPoint : Mark → SphericalPoint
-markPoint m = m .point
-
-abbrev pub markByte : Mark → ℕ
-markByte m = m .byte
-
--- the clean points: the kept points marked 1
-abbrev pub cleanPoint : Mark → Option SphericalPoint
-cleanPoint m = pick (eqb (m .byte) 1) (some (m .point)) none
-
-unfoldable pub cleanPoints : List Mark → List SphericalPoint
-unfolding filterMap
-cleanPoints ms = filterMap cleanPoint ms
 
 -- ---- a listing: the kept points in sequence, with the counts of all visited pairs
 

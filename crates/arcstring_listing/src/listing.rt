@@ -1,43 +1,37 @@
 // The crossings and the four counts of two strings, of a leg and a string, and of a string with itself. The kept
-// points are the source's, each with a mark byte: 1 clean, 0 grazing. `tally_two`, with its `requires`, is for the crates
-// of the string layer, not for users.
+// points are the source's, each with a mark byte: 1 clean, 0 grazing.
 ghost use mathlib.Core.Path.{_≡_};
 ghost use mathlib.Core.Bool.{true, false};
 ghost use mathlib.Core.List.{map};
 ghost use Prim.Native.Nat.{_*_, _≤_};
 ghost use lib.ListN.{length};
-ghost use Rattle.arcstring.specs.Answer.{firstOf, leaves};
+ghost use Rattle.arcstring_check.specs.Answer.{firstOf, leaves};
 ghost use Rattle.arcstring.specs.Points.{flat};
 ghost use Rattle.arcstring.specs.Splice.{splice};
-ghost use Rattle.arcstring.specs.Check.{checkNumber, storedCheck, roomCheck};
-ghost use Rattle.arcstring.specs.Build.{normalizedAll};
+ghost use Rattle.arcstring_check.specs.Check.{checkNumber, storedCheck, roomCheck};
+ghost use Rattle.arcstring_build.specs.Build.{normalizedAll};
 ghost use Rattle.arcstring.specs.Point.{decidedAnswer};
-ghost use Rattle.arcstring_crossing.specs.Crossing.{leg, legOf, legCheck};
-ghost use Rattle.arcstring_listing.specs.Listing.{keptMarks, markPoint, markByte, listingOf, inRoom, visited, legPairs, selfPairs, counted};
-ghost use Rattle.arcstring_listing.specs.Listing.{legCrossings, selfCrossings, crossesSelf, sameSide, countedAnswer, listedAnswer, listedResult};
-ghost use Rattle.arcstring_listing.specs.Listing.{listedFloats, listedBytes};
+ghost use Rattle.arcstring.specs.Leg.{leg, legOf, legCheck};
+ghost use Rattle.arcstring_tally.specs.Pairs.{keptMarks, markPoint, markByte};
+ghost use Rattle.arcstring_listing.specs.Listing.{listingOf, inRoom, visited, legPairs, selfPairs, counted, legCrossings, selfCrossings, crossesSelf};
+ghost use Rattle.arcstring_listing.specs.Listing.{sameSide, countedAnswer, listedAnswer, listedResult, listedFloats, listedBytes};
 ghost use Rattle.arcstring_listing.specs.Listing as Listing;
-ghost use Rattle.arcstring_listing.specs.Tally.{noTally, tallyOn};
-use crate::tally;
-use crate::tally::Tally;
-use crate::walk;
-use arcstring::build;
-use arcstring::check;
-use arcstring::check::Checked;
-use arcstring::check::Decided;
-use arcstring::check::Refusal;
-use arcstring_crossing::crossing;
-use arcstring_crossing::leg;
+ghost use Rattle.arcstring_visit.specs.Visit.{mostPairs};
+ghost use Rattle.arcstring_tally.specs.Tally.{noTally, tallyOn};
+use crate::inner;
+use arcstring::inner::leg;
+use arcstring_build::build;
+use arcstring_check::check::Checked;
+use arcstring_check::check::Decided;
+use arcstring_check::check::Refusal;
+use arcstring_check::inner::checks;
+use arcstring_tally::counts::Counts;
+use arcstring_tally::inner::tally;
+use arcstring_tally::inner::tally::Tally;
+use arcstring_visit::inner::walk;
 use sphericalpoint::SphericalPoint;
 
-// How many of the visited pairs are in each class.
-pub struct Counts {
-    pub clean: u64,
-    pub end: u64,
-    pub grazing: u64,
-    pub apart: u64,
-}
-
+// The four counts, or why there are none.
 pub enum Counted {
     Counts(Counts),
     Refused(Refusal),
@@ -47,23 +41,6 @@ pub enum Counted {
 pub enum Listed {
     Listing(usize, Counts),
     Refused(Refusal),
-}
-
-// The pairs of two accepted strings, counted.
-pub fn tally_two(a: &[f64], a_closed: bool, b: &[f64], b_closed: bool) -> Tally
-    requires { ⌜ (storedCheck (now a) ≡ 0) × (storedCheck (now b) ≡ 0) ⌝ }
-    ensures { λ r. ⌜ (r ≡ tallyOn noTally (visited (now (a .entry)) «a_closed» (now (b .entry)) «b_closed»)) × (r .kept ≤ 1048576) ⌝ }
-{
-    let na = a.len() / 3;
-    let nb = b.len() / 3;
-    walk::count_between(
-        a,
-        na,
-        leg::leg_count(na, a_closed),
-        b,
-        nb,
-        leg::leg_count(nb, b_closed),
-    )
 }
 
 // The pairs of two accepted strings, counted, and what they keep written.
@@ -137,12 +114,12 @@ fn holds_all(
 
 // Whether so many kept points and their marks fit the buffers.
 fn check_buffers(kept: usize, points: usize, marks: usize) -> Checked
-    requires { ⌜ kept ≤ 1048576 ⌝ }
+    requires { ⌜ kept ≤ mostPairs ⌝ }
     ensures { λ r. ⌜ checkNumber r ≡ firstOf (roomCheck (3 * kept) points) (roomCheck kept marks) ⌝ }
 {
-    check::first_of(
-        check::check_room(3 * kept, points),
-        check::check_room(kept, marks),
+    checks::first_of(
+        checks::check_room(3 * kept, points),
+        checks::check_room(kept, marks),
     )
 }
 
@@ -151,11 +128,11 @@ fn check_buffers(kept: usize, points: usize, marks: usize) -> Checked
 pub fn count(a: &[f64], a_closed: bool, b: &[f64], b_closed: bool) -> Counted
     ensures { λ r. ⌜ countedAnswer r ≡ counted (now (a .entry)) «a_closed» (now (b .entry)) «b_closed» ⌝ }
 {
-    let checked = check::first_of(check::check_stored(a), check::check_stored(b));
+    let checked = checks::first_of(checks::check_stored(a), checks::check_stored(b));
     match checked {
         Checked::Refused(e) => Counted::Refused(e),
         Checked::Accepted => {
-            Counted::Counts(tally::counts_of(tally_two(a, a_closed, b, b_closed)))
+            Counted::Counts(tally::counts_of(inner::tally_two(a, a_closed, b, b_closed)))
         }
     }
 }
@@ -182,7 +159,7 @@ fn list_two(
         let t = visit_two(a, a_closed, b, b_closed, points, marks);
         return Listed::Listing(t.kept, tally::counts_of(t));
     }
-    let t = tally_two(a, a_closed, b, b_closed);
+    let t = inner::tally_two(a, a_closed, b, b_closed);
     let room = check_buffers(t.kept, points.len(), marks.len());
     if let Checked::Refused(e) = room {
         return Listed::Refused(e);
@@ -201,11 +178,16 @@ pub fn crossings(
     points: &mut [f64],
     marks: &mut [u8],
 ) -> Listed
-    ensures { λ r. ⌜ listedAnswer r ≡ listedResult (Listing.crossings (now (a .entry)) «a_closed» (now (b .entry)) «b_closed» (length (now (points .entry))) (length (now (marks .entry)))) ⌝ }
-    ensures { λ _. ⌜ now (points .exit) ≡ leaves (listedFloats (Listing.crossings (now (a .entry)) «a_closed» (now (b .entry)) «b_closed» (length (now (points .entry))) (length (now (marks .entry))))) (now (points .entry)) ⌝ }
-    ensures { λ _. ⌜ now (marks .exit) ≡ leaves (listedBytes (Listing.crossings (now (a .entry)) «a_closed» (now (b .entry)) «b_closed» (length (now (points .entry))) (length (now (marks .entry))))) (now (marks .entry)) ⌝ }
+    ensures { λ r. ⌜ listedAnswer r ≡ listedResult
+        (Listing.crossings (now (a .entry)) «a_closed» (now (b .entry)) «b_closed» (length (now (points .entry))) (length (now (marks .entry)))) ⌝ }
+    ensures { λ _. ⌜ now (points .exit) ≡ leaves
+        (listedFloats (Listing.crossings (now (a .entry)) «a_closed» (now (b .entry)) «b_closed» (length (now (points .entry))) (length (now (marks .entry)))))
+        (now (points .entry)) ⌝ }
+    ensures { λ _. ⌜ now (marks .exit) ≡ leaves
+        (listedBytes (Listing.crossings (now (a .entry)) «a_closed» (now (b .entry)) «b_closed» (length (now (points .entry))) (length (now (marks .entry)))))
+        (now (marks .entry)) ⌝ }
 {
-    let checked = check::first_of(check::check_stored(a), check::check_stored(b));
+    let checked = checks::first_of(checks::check_stored(a), checks::check_stored(b));
     if let Checked::Refused(e) = checked {
         return Listed::Refused(e);
     }
@@ -217,8 +199,8 @@ fn tally_leg(arc: [[f64; 3]; 2], v: &[f64], closed: bool) -> Tally
     requires { ⌜ (legCheck (legOf arc) ≡ 0) × (storedCheck (now v) ≡ 0) ⌝ }
     ensures { λ r. ⌜ r ≡ tallyOn noTally (legPairs (legOf arc) (now (v .entry)) closed) ⌝ }
 {
-    let a = crossing::leg_string(arc);
-    tally_two(&a, false, v, closed)
+    let a = leg::leg_string(arc);
+    inner::tally_two(&a, false, v, closed)
 }
 
 // The kept points of one leg with every leg of a string, their marks and the four counts.
@@ -230,15 +212,18 @@ pub fn arc_crossings_with_arcstring(
     points: &mut [f64],
     marks: &mut [u8],
 ) -> Listed
-    ensures { λ r. ⌜ listedAnswer r ≡ listedResult (legCrossings (legOf arc) (now (v .entry)) closed (length (now (points .entry))) (length (now (marks .entry)))) ⌝ }
-    ensures { λ _. ⌜ now (points .exit) ≡ leaves (listedFloats (legCrossings (legOf arc) (now (v .entry)) closed (length (now (points .entry))) (length (now (marks .entry))))) (now (points .entry)) ⌝ }
-    ensures { λ _. ⌜ now (marks .exit) ≡ leaves (listedBytes (legCrossings (legOf arc) (now (v .entry)) closed (length (now (points .entry))) (length (now (marks .entry))))) (now (marks .entry)) ⌝ }
+    ensures { λ r. ⌜ listedAnswer r ≡ listedResult
+        (legCrossings (legOf arc) (now (v .entry)) closed (length (now (points .entry))) (length (now (marks .entry)))) ⌝ }
+    ensures { λ _. ⌜ now (points .exit) ≡ leaves
+        (listedFloats (legCrossings (legOf arc) (now (v .entry)) closed (length (now (points .entry))) (length (now (marks .entry))))) (now (points .entry)) ⌝ }
+    ensures { λ _. ⌜ now (marks .exit) ≡ leaves
+        (listedBytes (legCrossings (legOf arc) (now (v .entry)) closed (length (now (points .entry))) (length (now (marks .entry))))) (now (marks .entry)) ⌝ }
 {
-    let checked = check::first_of(crossing::check_leg(arc), check::check_stored(v));
+    let checked = checks::first_of(leg::check_leg(arc), checks::check_stored(v));
     if let Checked::Refused(e) = checked {
         return Listed::Refused(e);
     }
-    let a = crossing::leg_string(arc);
+    let a = leg::leg_string(arc);
     list_two(&a, false, v, closed, points, marks)
 }
 
@@ -256,7 +241,7 @@ pub fn points_are_on_same_side(
         [point_a.x, point_a.y, point_a.z],
         [point_b.x, point_b.y, point_b.z],
     ];
-    let checked = check::first_of(crossing::check_leg(arc), check::check_stored(v));
+    let checked = checks::first_of(leg::check_leg(arc), checks::check_stored(v));
     if let Checked::Refused(e) = checked {
         return Decided::Refused(e);
     }
@@ -267,7 +252,7 @@ pub fn points_are_on_same_side(
 // An accepted string against itself, counted, its closing leg too where it is taken as closed.
 fn tally_self(v: &[f64], closed: bool) -> Tally
     requires { ⌜ storedCheck (now v) ≡ 0 ⌝ }
-    ensures { λ r. ⌜ (r ≡ tallyOn noTally (selfPairs (now (v .entry)) closed)) × (r .kept ≤ 1048576) ⌝ }
+    ensures { λ r. ⌜ (r ≡ tallyOn noTally (selfPairs (now (v .entry)) closed)) × (r .kept ≤ mostPairs) ⌝ }
 {
     let n = v.len() / 3;
     walk::count_within(v, n, leg::leg_count(n, closed))
@@ -285,7 +270,7 @@ fn visit_self(v: &[f64], points: &mut [f64], marks: &mut [u8]) -> Tally
 {
     let n = v.len() / 3;
     let t = walk::visit(v, n, n - 1, v, n, n - 1, true, true, points, marks);
-    build::normalize_points(points, t.kept);
+    arcstring_build::inner::normalize_points(points, t.kept);
     t
 }
 
@@ -326,10 +311,12 @@ fn holds_self(v: &[f64], points: usize, marks: usize) -> bool
 // Refuses by 1, 3 and 4 of the vertices, and by 7.
 pub fn crossings_with_self(v: &[f64], points: &mut [f64], marks: &mut [u8]) -> Listed
     ensures { λ r. ⌜ listedAnswer r ≡ listedResult (selfCrossings (now (v .entry)) (length (now (points .entry))) (length (now (marks .entry)))) ⌝ }
-    ensures { λ _. ⌜ now (points .exit) ≡ leaves (listedFloats (selfCrossings (now (v .entry)) (length (now (points .entry))) (length (now (marks .entry))))) (now (points .entry)) ⌝ }
-    ensures { λ _. ⌜ now (marks .exit) ≡ leaves (listedBytes (selfCrossings (now (v .entry)) (length (now (points .entry))) (length (now (marks .entry))))) (now (marks .entry)) ⌝ }
+    ensures { λ _. ⌜ now (points .exit) ≡ leaves (listedFloats (selfCrossings (now (v .entry)) (length (now (points .entry))) (length (now (marks .entry)))))
+        (now (points .entry)) ⌝ }
+    ensures { λ _. ⌜ now (marks .exit) ≡ leaves (listedBytes (selfCrossings (now (v .entry)) (length (now (points .entry))) (length (now (marks .entry)))))
+        (now (marks .entry)) ⌝ }
 {
-    let checked = check::check_stored(v);
+    let checked = checks::check_stored(v);
     if let Checked::Refused(e) = checked {
         return Listed::Refused(e);
     }
@@ -351,7 +338,7 @@ pub fn crossings_with_self(v: &[f64], points: &mut [f64], marks: &mut [u8]) -> L
 pub fn crosses_self(v: &[f64], closed: bool) -> Decided
     ensures { λ r. ⌜ decidedAnswer r ≡ crossesSelf (now (v .entry)) closed ⌝ }
 {
-    let checked = check::check_stored(v);
+    let checked = checks::check_stored(v);
     if let Checked::Refused(e) = checked {
         return Decided::Refused(e);
     }

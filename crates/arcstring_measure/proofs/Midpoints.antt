@@ -10,30 +10,30 @@ use lib.Seq.{take-add, length-take-le}
 use lib.Ieee.{Float, binary64, ofBits}
 use borrow.Author.Tests.{eq-eqb, ne-eqb, eqb-false}
 use Rattle.sphericalpoint.specs.declared.SphericalPoint.{SphericalPoint}
-use Rattle.arcstring.specs.declared.check.Refusal.{Refusal}
-use Rattle.arcstring.specs.declared.check.Refusal.the-variants.{NoRoom}
-use Rattle.arcstring.specs.declared.check.Checked.{Checked}
-use Rattle.arcstring.specs.declared.check.Checked.the-variants.{Accepted, Refused}
-use Rattle.arcstring.specs.Answer.{Answer, refused, answered, unlessRefused, numberIf, firstOf, leaves, refusalNumber}
+use Rattle.arcstring_check.specs.declared.check.Refusal.{Refusal}
+use Rattle.arcstring_check.specs.declared.check.Refusal.the-variants.{NoRoom}
+use Rattle.arcstring_check.specs.declared.check.Checked.{Checked}
+use Rattle.arcstring_check.specs.declared.check.Checked.the-variants.{Accepted, Refused}
+use Rattle.arcstring_check.specs.Answer.{Answer, refused, answered, unlessRefused, numberIf, firstOf, leaves, refusalNumber}
 use Rattle.arcstring.specs.Points.{points, flat}
 use Rattle.arcstring.specs.Splice.{splice}
-use Rattle.arcstring.specs.Check.{checkNumber, listCheck, roomCheck}
-use Rattle.arcstring.specs.Walk.{writtenResult, writtenFloats}
-use Rattle.arcstring.proofs.Answers.{refuse, pass, answer-refused, first-passes}
-use Rattle.arcstring.proofs.Checks.{WholeList, few-passes, whole-list, if-none}
-use Rattle.arcstring.proofs.Rooms.{no-room, room-enough}
+use Rattle.arcstring_check.specs.Check.{checkNumber, listCheck, roomCheck}
+use Rattle.arcstring.specs.Written.{writtenResult, writtenFloats}
+use Rattle.arcstring_check.proofs.Answers.{refuse, pass, answer-refused, first-passes}
+use Rattle.arcstring_check.proofs.Checks.{WholeList, few-passes, whole-list, if-none}
+use Rattle.arcstring_check.proofs.Rooms.{no-room, room-enough}
 use Rattle.arcstring.proofs.Flat.{length-points, length-flat, flat-append}
 use Rattle.arcstring.proofs.Moves.{floats}
 use Rattle.arcstring.proofs.Splices.{spliced-next, splice-front, splice-nothing}
-use Rattle.arcstring_crossing.specs.Crossing.{Leg}
-use Rattle.arcstring_crossing.specs.Leg.{legs, legAt, legsFrom, legCount}
-use Rattle.arcstring_crossing.proofs.Legs.{legs-step, legs-none, legs-whole, length-legs}
+use Rattle.arcstring.specs.Leg.{Leg, legs, legAt, legsFrom, legCount}
+use Rattle.arcstring.proofs.Legs.{legs-step, legs-none, legs-whole, length-legs}
 use Rattle.arcstring_measure.specs.Measure.{two, midpoint, midpointsCheck, midpoints}
 
 -- ---- the checks
 
 module _ (v : List Float) (closed : Bool) where
-  by-tests : (a b : Bool) → eqb (length v) 0 ≡ a → not closed && eqb (length v / 3) 1 ≡ b → listCheck (firstOf (numberIf a 1) (numberIf b 2)) v ≡ midpointsCheck v closed
+  by-tests : (a b : Bool) → eqb (length v) 0 ≡ a → not closed && eqb (length v / 3) 1 ≡ b → listCheck
+      (firstOf (numberIf a 1) (numberIf b 2)) v ≡ midpointsCheck v closed
   unfolding midpointsCheck
   by-tests a b p q = sym (ap₂ (λ (x y : Bool). listCheck (firstOf (numberIf x 1) (numberIf y 2)) v) p q)
 
@@ -78,7 +78,8 @@ legs-split v k =
 legs-more : (v : List Float) (n k : ℕ) → length v ≡ 3 * n → k < n → legsFrom v 0 (k + 1) ≡ legsFrom v 0 k ++ (legAt v n k ∷ [])
 legs-more v n k whole h =
     legs-split v k
-    ∙ ap (λ (ls : List Leg). legsFrom v 0 k ++ ls) (legs-step v n whole k (k + 1) (omega arith) (omega arith) ∙ ap (λ (ls : List Leg). legAt v n k ∷ ls) (legs-none v (k + 1) (k + 1) (omega arith)))
+    ∙ ap (λ (ls : List Leg). legsFrom v 0 k ++ ls)
+    (legs-step v n whole k (k + 1) (omega arith) (omega arith) ∙ ap (λ (ls : List Leg). legAt v n k ∷ ls) (legs-none v (k + 1) (k + 1) (omega arith)))
 
 length-written : (v : List Float) (n k : ℕ) → length v ≡ 3 * n → k ≤ n → length (legsFrom v 0 k) ≡ k
 unfolding legsFrom
@@ -106,7 +107,8 @@ midpoints-step v n k old out out' x p whole h before hx hp after =
     ∙ ap (λ (q : SphericalPoint). flat done ++ flat (q ∷ [])) (sym (hp ∙ ap midpoint hx)) in
     spliced-next old out out' 0 (flat done) (3 * k) (floats p) before after (omega arith) (omega arith) ∙ ap (splice old 0) (sym more)
 
-pub midpoints-all : (v : List Float) (l k : ℕ) (old out : List Float) → k ≡ l → out ≡ splice old 0 (flat (map midpoint (legsFrom v 0 k))) → out ≡ splice old 0 (flat (map midpoint (legsFrom v 0 l)))
+pub midpoints-all : (v : List Float) (l k : ℕ) (old out : List Float) → k ≡ l → out ≡ splice old 0 (flat (map midpoint (legsFrom v 0 k)))
+    → out ≡ splice old 0 (flat (map midpoint (legsFrom v 0 l)))
 midpoints-all v l k old out e before = before ∙ ap (λ (j : ℕ). splice old 0 (flat (map midpoint (legsFrom v 0 j)))) e
 
 -- ---- the answer, and the buffer
@@ -122,7 +124,8 @@ module _ (k : Checked) (v : List Float) (closed : Bool) (old : List Float) (numb
   refused-midpoints e told = told-both (refused (refusalNumber e)) (answer-refused k e (midpointsCheck v closed) _ told number) old refl
 
   accepted-midpoints : k ≡ Accepted
-      → unlessRefused (roomCheck (3 * length (legs (points v) closed)) (length old)) (answered (map midpoint (legs (points v) closed))) ≡ midpoints v closed (length old)
+      → unlessRefused (roomCheck (3 * length (legs (points v) closed)) (length old)) (answered (map midpoint (legs (points v) closed))) ≡ midpoints v closed
+      (length old)
   unfolding midpoints
   accepted-midpoints told = sym (pass (midpointsCheck v closed) _ (sym number ∙ ap checkNumber told))
 
@@ -137,15 +140,19 @@ module _ (k : Checked) (v : List Float) (closed : Bool) (old : List Float) (numb
     count-legs = ap length (sym all-legs) ∙ length-written v (length v / 3) l accepted-triples few
 
     pub cramped-midpoints : length old < 3 * l →
-        (refused (refusalNumber NoRoom) ≡ writtenResult (midpoints v closed (length old))) × (old ≡ leaves (writtenFloats (midpoints v closed (length old))) old)
+        (refused (refusalNumber NoRoom) ≡ writtenResult (midpoints v closed (length old)))
+        × (old ≡ leaves (writtenFloats (midpoints v closed (length old))) old)
     cramped-midpoints h =
-        told-both (refused (refusalNumber NoRoom)) (refuse NoRoom _ _ (no-room (3 * length (legs (points v) closed)) (length old) (omega (arith, count-legs))) ∙ accepted-midpoints told) old refl
+        told-both (refused (refusalNumber NoRoom))
+        (refuse NoRoom _ _ (no-room (3 * length (legs (points v) closed)) (length old) (omega (arith, count-legs))) ∙ accepted-midpoints told) old refl
 
     pub written-midpoints : (out : List Float) → 3 * l ≤ length old → out ≡ splice old 0 (flat (map midpoint (legsFrom v 0 l))) →
         (answered l ≡ writtenResult (midpoints v closed (length old))) × (out ≡ leaves (writtenFloats (midpoints v closed (length old))) old)
     written-midpoints out h w =
         let ms = map midpoint (legs (points v) closed) in
-        let r : answered ms ≡ midpoints v closed (length old) = sym (pass _ (answered ms) (room-enough (3 * length (legs (points v) closed)) (length old) (omega (arith, count-legs)))) ∙ accepted-midpoints told in
+        let r : answered ms ≡ midpoints v closed (length old) = sym
+        (pass _ (answered ms) (room-enough (3 * length (legs (points v) closed)) (length old) (omega (arith, count-legs)))) ∙ accepted-midpoints told in
         let m : length ms ≡ l = length-map (legs (points v) closed) midpoint ∙ count-legs in
-        let both = told-both (answered ms) r out (w ∙ ap (λ (ls : List Leg). splice old 0 (flat (map midpoint ls))) all-legs ∙ splice-front old (length (flat ms)) (flat ms) refl) in
+        let both = told-both (answered ms) r out
+        (w ∙ ap (λ (ls : List Leg). splice old 0 (flat (map midpoint ls))) all-legs ∙ splice-front old (length (flat ms)) (flat ms) refl) in
         (ap answered (sym m) ∙ both .0, both .1)

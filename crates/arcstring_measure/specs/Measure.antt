@@ -1,28 +1,24 @@
 -- Turn orientations and midpoints, as arcstring.rs has them. Definitions only.
-use mathlib.Core.Bool.{Bool, true, false, not, _&&_, _||_}
+use mathlib.Core.Bool.{Bool, false, not, _&&_, _||_}
 use mathlib.Core.List.{List, [], _∷_, _++_, map}
 use Prim.Native.Nat.{ℕ, zero, suc, _+_, _-_, _*_, _/_}
 use lib.IntN.{pos}
 use lib.ListN.{length, getD}
-use lib.Dec.{ltb, eqb}
+use lib.Dec.{eqb}
 use lib.Ieee.{Float, nan, fin}
 use Rattle.sphericalpoint.specs.declared.SphericalPoint.{SphericalPoint}
 use Rattle.sphericalpoint.specs.Vector.{xyzAdd, xyzSub, xyzMul, xyzDiv, xyzCross, xyzSum}
 use Rattle.sphericalpoint.specs.Point.{normalizedUnlessShort}
-use Rattle.arcstring.specs.Answer.{Answer, answered, unlessRefused, mapAnswer, numberIf, firstOf, pick}
+use Rattle.arcstring_check.specs.Answer.{Answer, answered, unlessRefused, mapAnswer, numberIf, firstOf, pick}
 use Rattle.arcstring.specs.Points.{points, noPoint}
-use Rattle.arcstring.specs.Check.{listCheck, storedCheck, roomCheck}
-use Rattle.arcstring_crossing.specs.Crossing.{Leg}
-use Rattle.arcstring_crossing.specs.Leg.{legs}
+use Rattle.arcstring_check.specs.Check.{listCheck, storedCheck, roomCheck}
+use Rattle.arcstring.specs.Leg.{Leg, legs, positionAfter}
 
 -- ---- turn orientations
 
--- the positions before and after k, around n vertices
+-- the position before k, around n vertices; `positionAfter` is the one after it
 unfoldable pub positionBefore : ℕ → ℕ → ℕ
 positionBefore k n = pick (eqb k 0) (n - 1) (k - 1)
-
-unfoldable pub positionAfter : ℕ → ℕ → ℕ
-positionAfter k n = pick (ltb (k + 1) n) (k + 1) 0
 
 -- the sum that the Rust takes at b, between a and c
 unfoldable pub turn : SphericalPoint → SphericalPoint → SphericalPoint → Float

@@ -3,23 +3,20 @@ ghost use mathlib.Core.Path.{_≡_};
 ghost use mathlib.Core.List.{map};
 ghost use Prim.Native.Nat.{_*_, _≤_, _<_};
 ghost use lib.ListN.{length};
-ghost use Rattle.arcstring.specs.Answer.{leaves};
+ghost use Rattle.arcstring_check.specs.Answer.{leaves};
 ghost use Rattle.arcstring.specs.Points.{points, flat};
 ghost use Rattle.arcstring.specs.Splice.{splice};
-ghost use Rattle.arcstring.specs.Check.{checkNumber};
-ghost use Rattle.arcstring.specs.Walk.{writtenAnswer, writtenResult, writtenFloats};
-ghost use Rattle.arcstring_crossing.specs.Crossing.{legOf};
-ghost use Rattle.arcstring_crossing.specs.Leg.{legsFrom};
-ghost use Rattle.arcstring_measure.specs.Measure.{turn, positionBefore, positionAfter, turnAt, turnsTo, turnOrientations};
-ghost use Rattle.arcstring_measure.specs.Measure.{turnsResult, midpoint, midpointsCheck};
+ghost use Rattle.arcstring_check.specs.Check.{checkNumber};
+ghost use Rattle.arcstring.specs.Written.{writtenAnswer, writtenResult, writtenFloats};
+ghost use Rattle.arcstring.specs.Leg.{legOf, legsFrom};
+ghost use Rattle.arcstring_measure.specs.Measure.{turn, positionBefore, turnAt, turnsTo, turnOrientations, turnsResult, midpoint, midpointsCheck};
 ghost use Rattle.arcstring_measure.specs.Measure as Measure;
-use arcstring::check;
-use arcstring::check::Checked;
-use arcstring::check::Refusal;
-use arcstring::vertex;
-use arcstring::walk::Written;
-use arcstring_crossing::crossing;
-use arcstring_crossing::leg;
+use arcstring::inner::leg;
+use arcstring::inner::vertex;
+use arcstring_check::check::Checked;
+use arcstring_check::check::Refusal;
+use arcstring_check::check::Written;
+use arcstring_check::inner::checks;
 use sphericalpoint::SphericalPoint;
 
 // The source's sum at b, between a and c.
@@ -35,19 +32,12 @@ fn turn_between(a: SphericalPoint, b: SphericalPoint, c: SphericalPoint) -> f64
     ))
 }
 
-// The position before k, and after it, around n vertices.
+// The position before k, around n vertices.
 fn position_before(k: usize, n: usize) -> usize
     requires { ⌜ k < n ⌝ }
     ensures { λ r. ⌜ (r ≡ positionBefore k n) × (r < n) ⌝ }
 {
     if k == 0 { n - 1 } else { k - 1 }
-}
-
-fn position_after(k: usize, n: usize) -> usize
-    requires { ⌜ k < n ⌝ }
-    ensures { λ r. ⌜ (r ≡ positionAfter k n) × (r < n) ⌝ }
-{
-    if k + 1 < n { k + 1 } else { 0 }
 }
 
 // The turn orientation at vertex k: NaN at both ends of an open string.
@@ -61,7 +51,7 @@ fn turn_at(v: &[f64], n: usize, closed: bool, k: usize) -> f64
     turn_between(
         vertex::vertex_at(v, position_before(k, n)),
         vertex::vertex_at(v, k),
-        vertex::vertex_at(v, position_after(k, n)),
+        vertex::vertex_at(v, leg::position_after(k, n)),
     )
 }
 
@@ -83,7 +73,7 @@ pub fn xyzs_turn_orientations(v: &[f64], closed: bool, out: &mut [f64]) -> Writt
     ensures { λ _. ⌜ now (out .exit) ≡ leaves (turnOrientations (now (v .entry)) closed (length (now (out .entry)))) (now (out .entry)) ⌝ }
 {
     let n = v.len() / 3;
-    let checked = check::first_of(check::check_stored(v), check::check_room(n, out.len()));
+    let checked = checks::first_of(checks::check_stored(v), checks::check_room(n, out.len()));
     match checked {
         Checked::Refused(e) => Written::Refused(e),
         Checked::Accepted => {
@@ -98,7 +88,7 @@ fn midpoint_of(arc: [[f64; 3]; 2]) -> SphericalPoint
     ensures { λ r. ⌜ r ≡ midpoint (legOf arc) ⌝ }
 {
     sphericalpoint::normalize_unless_short(sphericalpoint::xyz_div_f64(
-        sphericalpoint::xyz_add_xyz(crossing::start_of(arc), crossing::end_of(arc)),
+        sphericalpoint::xyz_add_xyz(leg::start_of(arc), leg::end_of(arc)),
         2.0,
     ))
 }
@@ -120,12 +110,12 @@ fn check_midpoints(v: &[f64], closed: bool) -> Checked
     ensures { λ r. ⌜ checkNumber r ≡ midpointsCheck (now (v .entry)) closed ⌝ }
 {
     if v.len() == 0 {
-        return check::check_list(v, Checked::Refused(Refusal::NotTriples));
+        return checks::check_list(v, Checked::Refused(Refusal::NotTriples));
     }
     if !closed & (v.len() / 3 == 1) {
-        return check::check_list(v, Checked::Refused(Refusal::TooFewPoints));
+        return checks::check_list(v, Checked::Refused(Refusal::TooFewPoints));
     }
-    check::check_list(v, Checked::Accepted)
+    checks::check_list(v, Checked::Accepted)
 }
 
 // The midpoint of each leg. Refuses by 1, 2 (an open string of one vertex), 3 and 4 of the vertices, and by 7.

@@ -1,2 +1,2 @@
--- The laws of comparisons. For others to cite: `Relations`, the theorem of `specs/RelationLaws.antt` among them.
+-- The laws of comparisons, for others to cite: `Relations`, the theorem of `specs/RelationLaws.antt` among them.
 pub mod Relations

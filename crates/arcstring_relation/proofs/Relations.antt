@@ -10,25 +10,48 @@ use lib.Ieee.{Float}
 use borrow.Author.Tests.{lt-ltb, le-ltb}
 use Rattle.sphericalpoint.specs.declared.SphericalPoint.{SphericalPoint}
 use Rattle.sphericalpoint.specs.Point.{normalizedUnlessShort}
-use Rattle.arcstring.specs.Answer.{Answer, answered, unlessRefused, pick}
+use Rattle.arcstring_check.specs.declared.check.Checked.{Checked}
+use Rattle.arcstring_check.specs.declared.check.Checked.the-variants.{Accepted}
+use Rattle.arcstring_check.specs.Answer.{Answer, answered, unlessRefused, firstOf, pick}
 use Rattle.arcstring.specs.Points.{ArcString, points, pointAt, noPoint}
-use Rattle.arcstring.specs.Check.{storedCheck}
-use Rattle.arcstring.proofs.Checks.{stored-whole, stored-some}
+use Rattle.arcstring_check.specs.Check.{checkNumber, storedCheck}
+use Rattle.arcstring_check.proofs.Answers.{passed-in-turn}
+use Rattle.arcstring_check.proofs.Checks.{stored-whole, stored-some}
 use Rattle.arcstring.proofs.Flat.{points-next, point-at, length-points, count-points}
-use Rattle.arcstring_crossing.specs.Leg.{legs}
-use Rattle.arcstring_listing.specs.declared.tally.Tally.{Tally}
-use Rattle.arcstring_listing.specs.Listing.{pairsBetween, keptMarks, visited}
-use Rattle.arcstring_listing.specs.Tally.{noTally, tallyOn}
-use Rattle.arcstring_listing.proofs.Tallies.{tally-kept}
+use Rattle.arcstring.specs.Leg.{legs}
+use Rattle.arcstring_tally.specs.declared.inner.tally.Tally.{Tally}
+use Rattle.arcstring_tally.specs.Pairs.{pairsBetween, keptMarks}
+use Rattle.arcstring_listing.specs.Listing.{visited}
+use Rattle.arcstring_tally.specs.Tally.{noTally, tallyOn}
+use Rattle.arcstring_tally.proofs.Tallies.{tally-kept}
 use Rattle.arcstring_along.specs.OnString.{isNear, nearSome, alongString, stored}
-use Rattle.arcstring_relation.specs.Relation.{firstEnd, lastEnd, boundary, allNear, boundariesMeet, sameBoundary, allAlong, eachAlong, equalStrings, withinString, crossesString, within, contains}
+use Rattle.arcstring_relation.specs.Relation.{firstEnd, lastEnd, boundary, allNear, boundariesMeet, sameBoundary, allAlong, eachAlong, equalStrings}
+use Rattle.arcstring_relation.specs.Relation.{withinString, crossesString, within, contains}
 use Rattle.arcstring_relation.specs.RelationLaws.{verdictOf, ContainsIsWithin}
 use Rattle.arcstring_along.proofs.NearEntries.{near-cons, near-one}
+
+-- ---- the lists of two strings, accepted
+
+-- what follows the checks of two strings' lists, and of a string's vertices and another string's lists
+module _ (k : Checked) (told : k ≡ Accepted) where
+  pub four-accepted : (a aNear b bNear : List Float)
+      → checkNumber k ≡ firstOf (storedCheck a) (firstOf (storedCheck aNear) (firstOf (storedCheck b) (storedCheck bNear)))
+      → (storedCheck a ≡ 0) × (storedCheck aNear ≡ 0) × (storedCheck b ≡ 0) × (storedCheck bNear ≡ 0)
+  four-accepted a aNear b bNear number =
+      let p = passed-in-turn k (storedCheck a) (storedCheck aNear ∷ storedCheck b ∷ storedCheck bNear ∷ []) told number in
+      (p .0, p .1 .0, p .1 .1 .0, p .1 .1 .1)
+
+  pub three-accepted : (a b c : List Float) → checkNumber k ≡ firstOf (storedCheck a) (firstOf (storedCheck b) (storedCheck c))
+      → (storedCheck a ≡ 0) × (storedCheck b ≡ 0) × (storedCheck c ≡ 0)
+  three-accepted a b c number =
+      let p = passed-in-turn k (storedCheck a) (storedCheck b ∷ storedCheck c ∷ []) told number in
+      (p .0, p .1 .0, p .1 .1)
 
 -- ---- each vertex along a string: q the vertex at k as the code has it, b whether it is along the string
 
 module _ (s : ArcString) (v : List Float) (n : ℕ) (whole : length v ≡ 3 * n) (k : ℕ) where
-  step : (q : SphericalPoint) (b : Bool) → k < n → q ≡ pointAt v k → b ≡ alongString q s → allAlong (drop k (points v)) s ≡ b && allAlong (drop (k + 1) (points v)) s
+  step : (q : SphericalPoint) (b : Bool) → k < n → q ≡ pointAt v k → b ≡ alongString q s → allAlong (drop k (points v)) s ≡ b && allAlong
+      (drop (k + 1) (points v)) s
   unfolding allAlong
   step q b h hq hb =
       ap (λ (ps : List SphericalPoint). allAlong ps s) (points-next n v k whole h)
@@ -37,7 +60,8 @@ module _ (s : ArcString) (v : List Float) (n : ℕ) (whole : length v ≡ 3 * n)
   pub along-stop : (q : SphericalPoint) (b : Bool) → k < n → q ≡ pointAt v k → b ≡ alongString q s → b ≡ false → false ≡ allAlong (drop k (points v)) s
   along-stop q b h hq hb e = sym (step q false h hq (sym e ∙ hb))
 
-  pub along-go : (q : SphericalPoint) (b : Bool) → k < n → q ≡ pointAt v k → b ≡ alongString q s → b ≡ true → allAlong (drop (k + 1) (points v)) s ≡ allAlong (drop k (points v)) s
+  pub along-go : (q : SphericalPoint) (b : Bool) → k < n → q ≡ pointAt v k → b ≡ alongString q s → b ≡ true
+      → allAlong (drop (k + 1) (points v)) s ≡ allAlong (drop k (points v)) s
   along-go q b h hq hb e = sym (step q true h hq (sym e ∙ hb))
 
   pub along-end : n ≤ k → true ≡ allAlong (drop k (points v)) s
@@ -58,7 +82,8 @@ module _ (v : List Float) (p q : SphericalPoint) (accepted : storedCheck v ≡ 0
   pub end-last : p ≡ pointAt v (length v / 3 - 1) → q ≡ normalizedUnlessShort p → q ≡ lastEnd (points v)
   unfolding lastEnd
   end-last hp hq =
-      let e : getD (points v) (length v / 3 - 1) noPoint ≡ pointAt v (length v / 3 - 1) = point-at v (length v / 3 - 1) noPoint (omega (arith, stored-some v accepted, stored-whole v accepted .triples)) in
+      let e : getD (points v) (length v / 3 - 1) noPoint ≡ pointAt v (length v / 3 - 1) = point-at v (length v / 3 - 1) noPoint
+      (omega (arith, stored-some v accepted, stored-whole v accepted .triples)) in
       let m : length (points v) ≡ length v / 3 = count-points v in
       cc
 
@@ -100,7 +125,8 @@ module _ (a aNear : List Float) (aClosed : Bool) (b bNear : List Float) (bClosed
 
   -- m whether the boundaries meet
   module _ (m : Bool) (known : m ≡ boundariesMeet aClosed bClosed (allNear (boundary (points a)) (boundary (points b)))) where
-    equal-by : (t u : Bool) → m ≡ t → ltb (length (points a)) (length (points b)) ≡ u → equalStrings left right ≡ t && pick u (eachAlong left right) (eachAlong right left)
+    equal-by : (t u : Bool) → m ≡ t → ltb (length (points a)) (length (points b)) ≡ u → equalStrings left right ≡ t && pick u (eachAlong left right)
+        (eachAlong right left)
     unfolding equalStrings sameBoundary
     equal-by t u e h = ap₂ (λ (x y : Bool). x && pick y (eachAlong left right) (eachAlong right left)) (sym known ∙ e) h
 

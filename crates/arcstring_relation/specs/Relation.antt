@@ -7,11 +7,11 @@ use lib.Dec.{ltb}
 use lib.Ieee.{Float}
 use Rattle.sphericalpoint.specs.declared.SphericalPoint.{SphericalPoint}
 use Rattle.sphericalpoint.specs.Point.{normalizedUnlessShort}
-use Rattle.arcstring.specs.Answer.{Answer, answered, unlessRefused, pick}
+use Rattle.arcstring_check.specs.Answer.{Answer, answered, unlessRefused, pick}
 use Rattle.arcstring.specs.Points.{ArcString, points, noPoint}
-use Rattle.arcstring.specs.Check.{storedCheck}
-use Rattle.arcstring_crossing.specs.Leg.{legs}
-use Rattle.arcstring_listing.specs.Listing.{pairsBetween, keptMarks}
+use Rattle.arcstring_check.specs.Check.{storedCheck}
+use Rattle.arcstring.specs.Leg.{legs}
+use Rattle.arcstring_tally.specs.Pairs.{pairsBetween, keptMarks}
 use Rattle.arcstring_along.specs.OnString.{nearSome, alongString, stored}
 
 -- ---- boundaries

@@ -4,7 +4,7 @@ use mathlib.Core.Bool.{Bool}
 use mathlib.Core.List.{List}
 use mathlib.Core.Option.{Option, none, some}
 use lib.Ieee.{Float}
-use Rattle.arcstring.specs.Answer.{Answer, refused, answered}
+use Rattle.arcstring_check.specs.Answer.{Answer, refused, answered}
 use Rattle.arcstring_relation.specs.Relation.{within, contains}
 
 -- the verdict, where there is one; of a refusal not the number

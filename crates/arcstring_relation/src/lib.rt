@@ -1,7 +1,9 @@
 // Two strings compared, as document 01 has them. Above the promises of arcstring_along and arcstring_listing, of the same layer: each
-// call takes any lists and flags, and says by its contract what it answers.
+// call takes any lists and flags, and says by its contract what it answers. arcstring_equals has the two comparisons that simplify
+// copies.
 //
-//     relation  `==`, within, contains, crosses
+//     relation    `==`, within, contains, crosses
 //
-// A function with a `requires` is for the crates of the string layer, not for users.
+// `inner` is for the crates of the layer, not for users.
+pub mod inner;
 pub mod relation;

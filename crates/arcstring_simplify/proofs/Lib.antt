@@ -1,17 +1,6 @@
--- The laws of simplified strings. For others to cite: `Simplified` (simplifying twice is simplifying once, an open string is never refused, what simplifying
--- keeps), `SimplifiedAccepted` and `SimplifiedTwice` (the call, called again). The rest serves these and the functions' proofs.
-pub mod Simplified
+-- The laws of simplified strings. For others to cite: `SimplifiedAccepted`, `SimplifiedTwice` (the call, called again) and `SimplifiesWithout` (simplifying
+-- never depends on the numbers). `Simplifies` serves the functions' proofs.
 pub mod SimplifiedAccepted
 pub mod SimplifiedTwice
-pub mod Natural
 pub mod SimplifiesWithout
-mod Removals
-mod OneRound
-mod Rounds
-mod Judgements
-mod Keeps
-mod RoundSteps
 mod Simplifies
-mod Overlaps
-mod Copies
-mod Equals

@@ -1,6 +1,6 @@
 -- The simplified vertices of an accepted string are accepted again. Assumes nothing.
 use mathlib.Core.Path.{_≡_, refl, sym, ap, ap₂, _∙_}
-use mathlib.Core.Bool.{Bool, true, false, _&&_, and-assoc}
+use mathlib.Core.Bool.{Bool, true, _&&_, and-assoc}
 use mathlib.Core.List.{List, [], _∷_, _++_}
 use Prim.Native.Nat.{ℕ, suc, _+_, _/_, _≤_, _<_}
 use native.Mathlib.Numerals.{add-one}
@@ -8,23 +8,16 @@ use native.Mathlib.Omega.{arith}
 use lib.ListN.{length, getD, take, drop, length-take}
 use lib.Seq.{split-at}
 use lib.Ieee.{Float}
+use Rattle.ieee754.proofs.Tests.{and-first, and-second}
 use Rattle.sphericalpoint.specs.declared.SphericalPoint.{SphericalPoint}
 use Rattle.arcstring.specs.Points.{itself, points, flat, noPoint}
-use Rattle.arcstring.specs.Check.{inRange, allInRange}
-use Rattle.arcstring.proofs.Flat.{flat-points, flat-append, count-points}
-use Rattle.arcstring.proofs.Checks.{points-stored, stored-whole, stored-some}
+use Rattle.arcstring_check.specs.Check.{inRange, allInRange}
+use Rattle.arcstring.proofs.Flat.{flat-points, flat-append, count-points, points-stored}
+use Rattle.arcstring_check.proofs.Checks.{stored-whole, stored-some}
 use Rattle.arcstring_simplify.specs.SimplifyLaws.{SimplifiedAccepted}
-use Rattle.arcstring_simplify.proofs.Simplified.{simplified-keeps, simplified-no-longer, first-vertex-stays}
+use Rattle.arcstring_rounds.proofs.Simplified.{simplified-keeps, simplified-no-longer, first-vertex-stays}
 
 -- ---- coordinates in range, with a point less
-
-left-true : (a b : Bool) → a && b ≡ true → a ≡ true
-left-true true b h = refl
-left-true false b h = h
-
-right-true : (a b : Bool) → a && b ≡ true → b ≡ true
-right-true true b h = h
-right-true false b h = absurd (let z : _≡_ {A = ℕ} 0 1 = cc in omega arith)
 
 range-append : (v w : List Float) → allInRange (v ++ w) ≡ allInRange v && allInRange w
 unfolding allInRange
@@ -34,15 +27,19 @@ range-append (x ∷ v) w = ap (λ (b : Bool). inRange x && b) (range-append v w)
 range-points : (xs ys : List SphericalPoint) → allInRange (flat (xs ++ ys)) ≡ allInRange (flat xs) && allInRange (flat ys)
 range-points xs ys = ap allInRange (flat-append xs ys) ∙ range-append (flat xs) (flat ys)
 
-range-without : (xs : List SphericalPoint) (q : SphericalPoint) (ys : List SphericalPoint) → allInRange (flat (xs ++ q ∷ ys)) ≡ true → allInRange (flat (xs ++ ys)) ≡ true
+range-without : (xs : List SphericalPoint) (q : SphericalPoint) (ys : List SphericalPoint) → allInRange (flat (xs ++ q ∷ ys)) ≡ true
+    → allInRange (flat (xs ++ ys)) ≡ true
 range-without xs q ys h =
     let all : allInRange (flat xs) && allInRange (flat (q ∷ ys)) ≡ true = sym (range-points xs (q ∷ ys)) ∙ h in
-    let rest : allInRange (flat (q ∷ [])) && allInRange (flat ys) ≡ true = sym (range-points (q ∷ []) ys) ∙ right-true (allInRange (flat xs)) (allInRange (flat (q ∷ ys))) all in
-    range-points xs ys ∙ ap₂ _&&_ (left-true (allInRange (flat xs)) (allInRange (flat (q ∷ ys))) all) (right-true (allInRange (flat (q ∷ []))) (allInRange (flat ys)) rest)
+    let rest : allInRange (flat (q ∷ [])) && allInRange (flat ys) ≡ true = sym (range-points (q ∷ []) ys)
+    ∙ and-second (allInRange (flat xs)) (allInRange (flat (q ∷ ys))) all in
+    range-points xs ys ∙ ap₂ _&&_ (and-first (allInRange (flat xs)) (allInRange (flat (q ∷ ys))) all)
+    (and-second (allInRange (flat (q ∷ []))) (allInRange (flat ys)) rest)
 
 range-after : (k : ℕ) (ps : List SphericalPoint) → k < length ps → allInRange (flat ps) ≡ true → allInRange (flat (take k ps ++ drop (k + 1) ps)) ≡ true
 range-after k ps h r =
-    rw add-one (range-without (take k ps) (getD ps k noPoint) (drop (suc k) ps) (ap (λ (qs : List SphericalPoint). allInRange (flat qs)) (sym (split-at ps k noPoint h)) ∙ r))
+    rw add-one (range-without (take k ps) (getD ps k noPoint) (drop (suc k) ps)
+    (ap (λ (qs : List SphericalPoint). allInRange (flat qs)) (sym (split-at ps k noPoint h)) ∙ r))
 
 -- ---- the checks
 

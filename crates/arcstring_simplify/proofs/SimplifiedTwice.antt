@@ -7,19 +7,20 @@ use native.Mathlib.Omega.{arith}
 use lib.ListN.{length, length-map}
 use lib.Ieee.{Float}
 use Rattle.sphericalpoint.specs.declared.SphericalPoint.{SphericalPoint}
-use Rattle.arcstring.specs.Answer.{Answer, refused, answered, unlessRefused, mapAnswer, andThen}
-use Rattle.arcstring.specs.declared.vertex.Vertex.{Vertex}
+use Rattle.arcstring_check.specs.Answer.{Answer, refused, answered, unlessRefused, mapAnswer, andThen}
+use Rattle.arcstring.specs.declared.inner.vertex.Vertex.{Vertex}
 use Rattle.arcstring.specs.Points.{itself, numbered, placeOf, placesOf, buoysOf, points, flat}
-use Rattle.arcstring.specs.Check.{stringCheck, roomsCheck, intoRooms, lent}
-use Rattle.arcstring.proofs.Answers.{both-passed, both-numbers}
+use Rattle.arcstring_check.specs.Check.{stringCheck, roomsCheck, intoRooms, lent}
+use Rattle.arcstring_check.proofs.Answers.{both-passed, both-numbers}
 use Rattle.arcstring.proofs.Flat.{points-flat, length-flat}
-use Rattle.arcstring.proofs.Checks.{string-alone, string-stored}
-use Rattle.arcstring.proofs.Rooms.{room-enough}
+use Rattle.arcstring_check.proofs.Checks.{string-alone, string-stored}
+use Rattle.arcstring_check.proofs.Rooms.{room-enough}
 use Rattle.arcstring.proofs.WithoutBuoys.{lent-places}
-use Rattle.arcstring_simplify.specs.Simplify.{simplified, simplify}
+use Rattle.arcstring_rounds.specs.Rounds.{simplified}
+use Rattle.arcstring_simplify.specs.Simplify.{simplify}
 use Rattle.arcstring_simplify.specs.SimplifyLaws.{SimplifyTwice}
-use Rattle.arcstring_simplify.proofs.Natural.{map-simplified}
-use Rattle.arcstring_simplify.proofs.Simplified.{simplified-again}
+use Rattle.arcstring_rounds.proofs.Natural.{map-simplified}
+use Rattle.arcstring_rounds.proofs.Simplified.{simplified-again}
 use Rattle.arcstring_simplify.proofs.SimplifiedAccepted.{simplified-accepted}
 
 -- vertices taken apart into places and numbers, and put together again

@@ -4,14 +4,15 @@ use mathlib.Core.Path.{refl, sym, ap, _∙_}
 use mathlib.Core.List.{map}
 use Prim.Native.Nat.{_/_}
 use lib.ListN.{length}
-use Rattle.arcstring.specs.Answer.{mapAnswer}
+use Rattle.arcstring_check.specs.Answer.{mapAnswer}
 use Rattle.arcstring.specs.Points.{itself, numbered, placeOf, points, pointAt}
 use Rattle.arcstring.specs.Positions.{positionsFrom, vertexAt}
-use Rattle.arcstring.proofs.Checks.{stored-whole, string-stored, as-many-buoys}
+use Rattle.arcstring_check.proofs.Checks.{stored-whole, string-stored, as-many-buoys}
 use Rattle.arcstring.proofs.WithoutBuoys.{map-lent, lent-where, lent-places}
-use Rattle.arcstring_simplify.specs.Simplify.{simplified, simplify}
+use Rattle.arcstring_rounds.specs.Rounds.{simplified}
+use Rattle.arcstring_simplify.specs.Simplify.{simplify}
 use Rattle.arcstring_simplify.specs.BuoyLaws.{SimplifyWithout, SimplifyKeeps}
-use Rattle.arcstring_simplify.proofs.Natural.{map-simplified, at-positions}
+use Rattle.arcstring_rounds.proofs.Natural.{map-simplified, at-positions}
 
 pub simplify-without : SimplifyWithout
 unfolding simplify

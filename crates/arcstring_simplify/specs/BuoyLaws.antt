@@ -5,12 +5,13 @@ use mathlib.Core.List.{List, map}
 use Prim.Native.Nat.{ℕ, _/_}
 use lib.ListN.{length}
 use lib.Ieee.{Float}
-use Rattle.arcstring.specs.Answer.{mapAnswer}
+use Rattle.arcstring_check.specs.Answer.{mapAnswer}
 use Rattle.arcstring.specs.Points.{itself, points, pointAt}
 use Rattle.arcstring.specs.Positions.{positionsFrom, vertexAt}
-use Rattle.arcstring.specs.Check.{lent}
-use Rattle.arcstring.specs.Walk.{withoutBuoys}
-use Rattle.arcstring_simplify.specs.Simplify.{simplified, simplify}
+use Rattle.arcstring_check.specs.Check.{lent}
+use Rattle.arcstring.specs.Written.{withoutBuoys}
+use Rattle.arcstring_rounds.specs.Rounds.{simplified}
+use Rattle.arcstring_simplify.specs.Simplify.{simplify}
 
 -- the numbers taken off: simplifying over points, after the same checks
 abbrev pub SimplifyWithout : Type 0

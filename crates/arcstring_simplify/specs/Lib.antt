@@ -1,6 +1,4 @@
--- The definitions of simplifying, `equals` and `overlaps`. `SimplifyLaws` and `BuoyLaws`: what is claimed of simplifying. `Kept` serves inner contracts alone.
+-- The definition of the call that simplifies, over the rounds of arcstring_rounds. `SimplifyLaws` and `BuoyLaws`: what is claimed of it.
 pub mod Simplify
 pub mod SimplifyLaws
 pub mod BuoyLaws
-pub mod Relation
-pub mod Kept

@@ -8,18 +8,18 @@ use lib.ListN.{length, getD, take, drop, length-map, List·getD-map}
 use lib.Dec.{ltb}
 use lib.Ieee.{Float}
 use Rattle.sphericalpoint.specs.declared.SphericalPoint.{SphericalPoint}
-use Rattle.arcstring.specs.Answer.{Answer, refused, answered, unlessRefused, mapAnswer, andThen, firstOf, pick}
+use Rattle.arcstring_check.specs.Answer.{Answer, refused, answered, unlessRefused, mapAnswer, andThen, firstOf, pick}
 use Rattle.arcstring.specs.Points.{StringOf}
-use Rattle.arcstring.specs.Check.{stringCheck, pointsCheck, roomCheck, roomsCheck}
-use Rattle.arcstring.proofs.Answers.{map-unless}
+use Rattle.arcstring_check.specs.Check.{stringCheck, pointsCheck, roomCheck, roomsCheck}
+use Rattle.arcstring.specs.Leg.{legCount}
+use Rattle.arcstring_check.proofs.Answers.{map-unless}
 use Rattle.arcstring.proofs.Numbered.{map-take, map-drop}
-use Rattle.arcstring_crossing.specs.Leg.{legCount}
 use Rattle.arcstring_along.specs.OnString.{alongLeg}
 use Rattle.arcstring_insert.specs.Steps.{forPositions, legFrom, limited}
 use Rattle.arcstring_insert.proofs.Natural.{map-limited, map-picked, map-positions, map-each, made}
 use Rattle.arcstring_split_leg.specs.SplitLeg.{unlessUncut}
-use Rattle.arcstring_split.specs.Split.{firstPoints, secondPoints, pointsIn, noString, cutAt, cutAtLeg}
-use Rattle.arcstring_split.specs.Split.{cutPlace, cutString, cutAll, piecesInto, splitInto}
+use Rattle.arcstring_piece.specs.Cut.{firstPoints, secondPoints, pointsIn, noString, cutAt, cutAtLeg, cutPlace, cutString, cutAll}
+use Rattle.arcstring_split.specs.Split.{piecesInto, splitInto}
 use Rattle.arcstring_split.specs.BuoyLaws.{eachPiece}
 
 -- ---- cuts: what a list makes is made likewise

@@ -6,17 +6,18 @@ use Prim.Native.Nat.{ℕ}
 use lib.ListN.{length, take}
 use lib.Ieee.{Float}
 use Rattle.sphericalpoint.specs.declared.SphericalPoint.{SphericalPoint}
-use Rattle.arcstring.specs.Answer.{Answer, unlessRefused, mapAnswer, andThen}
+use Rattle.arcstring_check.specs.Answer.{Answer, unlessRefused, mapAnswer, andThen}
 use Rattle.arcstring.specs.Points.{StringOf, ArcString, itself, numbered, placeOf, placesOf, unnumbered, copied, points}
-use Rattle.arcstring.specs.Check.{stringCheck, pointsCheck}
-use Rattle.arcstring.specs.Build.{builtString, builtNumbered}
-use Rattle.arcstring.proofs.Answers.{where-passed}
-use Rattle.arcstring.proofs.BuildsWithout.{built-unnumbered, built-buoys}
+use Rattle.arcstring_check.specs.Check.{stringCheck, pointsCheck}
+use Rattle.arcstring_check.proofs.Answers.{where-passed}
 use Rattle.arcstring.proofs.WithoutBuoys.{buoyOf, lent-places, string-alike, points-alike}
+use Rattle.arcstring_build.specs.Build.{builtString, builtNumbered}
+use Rattle.arcstring_build.proofs.BuildsWithout.{built-unnumbered, built-buoys}
 use Rattle.arcstring_along.specs.OnString.{stored}
 use Rattle.arcstring_insert.proofs.InsertsWithout.{points-places}
 use Rattle.arcstring_split_leg.specs.SplitLeg.{unlessUncut}
-use Rattle.arcstring_split.specs.Split.{firstPoints, secondPoints, cutAll, piecesInto, splitInto, numberedCopy, splitString}
+use Rattle.arcstring_piece.specs.Cut.{firstPoints, secondPoints, cutAll}
+use Rattle.arcstring_split.specs.Split.{piecesInto, splitInto, numberedCopy, splitString}
 use Rattle.arcstring_split.specs.BuoyLaws.{SplitWithout, CutBuoys, eachPiece}
 use Rattle.arcstring_split.proofs.Natural.{map-cut-all, map-split-into, map-first, map-second}
 

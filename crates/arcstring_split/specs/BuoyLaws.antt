@@ -7,12 +7,13 @@ use mathlib.Core.Option.{Option, none, some}
 use Prim.Native.Nat.{ℕ}
 use lib.ListN.{length, take}
 use lib.Ieee.{Float}
-use Rattle.arcstring.specs.Answer.{mapAnswer}
-use Rattle.arcstring.specs.declared.vertex.Vertex.{Vertex}
+use Rattle.arcstring_check.specs.Answer.{mapAnswer}
+use Rattle.arcstring.specs.declared.inner.vertex.Vertex.{Vertex}
 use Rattle.arcstring.specs.Points.{buoysOf, placesOf, itself, unnumbered, copied, points}
-use Rattle.arcstring.specs.Build.{builtString, builtNumbered}
+use Rattle.arcstring_build.specs.Build.{builtString, builtNumbered}
 use Rattle.arcstring_along.specs.OnString.{stored}
-use Rattle.arcstring_split.specs.Split.{firstPoints, secondPoints, cutAll, splitInto, splitString}
+use Rattle.arcstring_piece.specs.Cut.{firstPoints, secondPoints, cutAll}
+use Rattle.arcstring_split.specs.Split.{splitInto, splitString}
 
 -- ---- the numbers taken off: the call over points, after the same checks
 

@@ -1,4 +1,4 @@
--- The definitions of splitting strings. `Pieces` serves inner contracts alone.
+-- The definitions of splitting strings. `Handed` serves inner contracts alone.
 pub mod Split
 pub mod BuoyLaws
-pub mod Pieces
+pub mod Handed

@@ -4,18 +4,22 @@ ghost use mathlib.Core.Bool.{not};
 ghost use Prim.Native.Nat.{_≤_};
 ghost use lib.ListN.{length, take};
 ghost use lib.Dec.{eqb};
-ghost use Rattle.arcstring.specs.Answer.{leaves, mapAnswer, flagNumber};
+ghost use Rattle.arcstring_check.specs.Answer.{leaves, mapAnswer, flagNumber};
 ghost use Rattle.arcstring.specs.Splice.{splice};
 ghost use Rattle.arcstring_split_leg.specs.SplitLeg.{splitAnswer, pieceCount, ofPieces};
 ghost use Rattle.arcstring_split_leg.specs.Legs.{cutCount};
-ghost use Rattle.arcstring_split.specs.Pieces.{Stands, flagsOf, handedOver};
+ghost use Rattle.arcstring_piece.specs.Pieces.{Stands};
+ghost use Rattle.arcstring_split.specs.Handed.{flagsOf, handedOver};
 ghost use Rattle.arcstring_split.specs.Split.{pieceFloats, pieceBuoys, pieceCounts, pieceFlags, splitString};
-use crate::cut_place;
-use arcstring::check;
-use arcstring::check::Checked;
-use arcstring::check::Refusal;
-use arcstring::vertex;
-use arcstring_split_leg::split::Cut;
+use arcstring::inner::vertex;
+use arcstring_check::check::Checked;
+use arcstring_check::check::MOST_FLOATS;
+use arcstring_check::check::MOST_POINTS;
+use arcstring_check::check::Refusal;
+use arcstring_check::inner::checks;
+use arcstring_cut::inner::cut_place;
+use arcstring_piece::inner::replace;
+use arcstring_split_leg::inner::Cut;
 use arcstring_split_leg::split::Split;
 
 // The first m flags of a local list copied out, each as 0 or 1.
@@ -49,11 +53,25 @@ fn hand_over(
     flags: &mut [u8],
 ) -> Split
     requires { ⌜ Stands (cutCount cut) (now work) (now buoys) (now sizes) (now closings) ⌝ }
-    ensures { λ r. ⌜ splitAnswer r ≡ mapAnswer pieceCount (handedOver cut (now (work .entry)) (now (buoys .entry)) (now (sizes .entry)) (now (closings .entry)) (length (now (out .entry))) (length (now («out_buoys» .entry))) (length (now (counts .entry))) (length (now (flags .entry)))) ⌝ }
-    ensures { λ _. ⌜ now (out .exit) ≡ leaves (mapAnswer (ofPieces pieceFloats) (handedOver cut (now (work .entry)) (now (buoys .entry)) (now (sizes .entry)) (now (closings .entry)) (length (now (out .entry))) (length (now («out_buoys» .entry))) (length (now (counts .entry))) (length (now (flags .entry))))) (now (out .entry)) ⌝ }
-    ensures { λ _. ⌜ now («out_buoys» .exit) ≡ leaves (mapAnswer (ofPieces pieceBuoys) (handedOver cut (now (work .entry)) (now (buoys .entry)) (now (sizes .entry)) (now (closings .entry)) (length (now (out .entry))) (length (now («out_buoys» .entry))) (length (now (counts .entry))) (length (now (flags .entry))))) (now («out_buoys» .entry)) ⌝ }
-    ensures { λ _. ⌜ now (counts .exit) ≡ leaves (mapAnswer (ofPieces pieceCounts) (handedOver cut (now (work .entry)) (now (buoys .entry)) (now (sizes .entry)) (now (closings .entry)) (length (now (out .entry))) (length (now («out_buoys» .entry))) (length (now (counts .entry))) (length (now (flags .entry))))) (now (counts .entry)) ⌝ }
-    ensures { λ _. ⌜ now (flags .exit) ≡ leaves (mapAnswer (ofPieces pieceFlags) (handedOver cut (now (work .entry)) (now (buoys .entry)) (now (sizes .entry)) (now (closings .entry)) (length (now (out .entry))) (length (now («out_buoys» .entry))) (length (now (counts .entry))) (length (now (flags .entry))))) (now (flags .entry)) ⌝ }
+    ensures { λ r. ⌜ splitAnswer r ≡ mapAnswer pieceCount
+        (handedOver cut (now (work .entry)) (now (buoys .entry)) (now (sizes .entry)) (now (closings .entry)) (length (now (out .entry)))
+        (length (now («out_buoys» .entry))) (length (now (counts .entry))) (length (now (flags .entry)))) ⌝ }
+    ensures { λ _. ⌜ now (out .exit) ≡ leaves (mapAnswer (ofPieces pieceFloats)
+        (handedOver cut (now (work .entry)) (now (buoys .entry)) (now (sizes .entry)) (now (closings .entry)) (length (now (out .entry)))
+        (length (now («out_buoys» .entry))) (length (now (counts .entry))) (length (now (flags .entry)))))
+        (now (out .entry)) ⌝ }
+    ensures { λ _. ⌜ now («out_buoys» .exit) ≡ leaves (mapAnswer (ofPieces pieceBuoys)
+        (handedOver cut (now (work .entry)) (now (buoys .entry)) (now (sizes .entry)) (now (closings .entry)) (length (now (out .entry)))
+        (length (now («out_buoys» .entry))) (length (now (counts .entry))) (length (now (flags .entry)))))
+        (now («out_buoys» .entry)) ⌝ }
+    ensures { λ _. ⌜ now (counts .exit) ≡ leaves (mapAnswer (ofPieces pieceCounts)
+        (handedOver cut (now (work .entry)) (now (buoys .entry)) (now (sizes .entry)) (now (closings .entry)) (length (now (out .entry)))
+        (length (now («out_buoys» .entry))) (length (now (counts .entry))) (length (now (flags .entry)))))
+        (now (counts .entry)) ⌝ }
+    ensures { λ _. ⌜ now (flags .exit) ≡ leaves (mapAnswer (ofPieces pieceFlags)
+        (handedOver cut (now (work .entry)) (now (buoys .entry)) (now (sizes .entry)) (now (closings .entry)) (length (now (out .entry)))
+        (length (now («out_buoys» .entry))) (length (now (counts .entry))) (length (now (flags .entry)))))
+        (now (flags .entry)) ⌝ }
 {
     match cut {
         Cut::Refused(e) => Split::Refused(e),
@@ -61,7 +79,7 @@ fn hand_over(
             if m < 2 {
                 return Split::Uncut;
             }
-            let total = cut_place::sum_of(sizes, m);
+            let total = replace::sum_of(sizes, m);
             if (out.len() < 3 * total)
                 | (out_buoys.len() < total)
                 | (counts.len() < m)
@@ -94,24 +112,38 @@ pub fn split_arcstring_at_points(
     counts: &mut [usize],
     flags: &mut [u8],
 ) -> Split
-    ensures { λ r. ⌜ splitAnswer r ≡ mapAnswer pieceCount (splitString (now (v .entry)) (now (buoys .entry)) closed (now (extra .entry)) (now («extra_buoys» .entry)) (length (now (out .entry))) (length (now («out_buoys» .entry))) (length (now (counts .entry))) (length (now (flags .entry)))) ⌝ }
-    ensures { λ _. ⌜ now (out .exit) ≡ leaves (mapAnswer (ofPieces pieceFloats) (splitString (now (v .entry)) (now (buoys .entry)) closed (now (extra .entry)) (now («extra_buoys» .entry)) (length (now (out .entry))) (length (now («out_buoys» .entry))) (length (now (counts .entry))) (length (now (flags .entry))))) (now (out .entry)) ⌝ }
-    ensures { λ _. ⌜ now («out_buoys» .exit) ≡ leaves (mapAnswer (ofPieces pieceBuoys) (splitString (now (v .entry)) (now (buoys .entry)) closed (now (extra .entry)) (now («extra_buoys» .entry)) (length (now (out .entry))) (length (now («out_buoys» .entry))) (length (now (counts .entry))) (length (now (flags .entry))))) (now («out_buoys» .entry)) ⌝ }
-    ensures { λ _. ⌜ now (counts .exit) ≡ leaves (mapAnswer (ofPieces pieceCounts) (splitString (now (v .entry)) (now (buoys .entry)) closed (now (extra .entry)) (now («extra_buoys» .entry)) (length (now (out .entry))) (length (now («out_buoys» .entry))) (length (now (counts .entry))) (length (now (flags .entry))))) (now (counts .entry)) ⌝ }
-    ensures { λ _. ⌜ now (flags .exit) ≡ leaves (mapAnswer (ofPieces pieceFlags) (splitString (now (v .entry)) (now (buoys .entry)) closed (now (extra .entry)) (now («extra_buoys» .entry)) (length (now (out .entry))) (length (now («out_buoys» .entry))) (length (now (counts .entry))) (length (now (flags .entry))))) (now (flags .entry)) ⌝ }
+    ensures { λ r. ⌜ splitAnswer r ≡ mapAnswer pieceCount
+        (splitString (now (v .entry)) (now (buoys .entry)) closed (now (extra .entry)) (now («extra_buoys» .entry)) (length (now (out .entry)))
+        (length (now («out_buoys» .entry))) (length (now (counts .entry))) (length (now (flags .entry)))) ⌝ }
+    ensures { λ _. ⌜ now (out .exit) ≡ leaves (mapAnswer (ofPieces pieceFloats)
+        (splitString (now (v .entry)) (now (buoys .entry)) closed (now (extra .entry)) (now («extra_buoys» .entry)) (length (now (out .entry)))
+        (length (now («out_buoys» .entry))) (length (now (counts .entry))) (length (now (flags .entry)))))
+        (now (out .entry)) ⌝ }
+    ensures { λ _. ⌜ now («out_buoys» .exit) ≡ leaves (mapAnswer (ofPieces pieceBuoys)
+        (splitString (now (v .entry)) (now (buoys .entry)) closed (now (extra .entry)) (now («extra_buoys» .entry)) (length (now (out .entry)))
+        (length (now («out_buoys» .entry))) (length (now (counts .entry))) (length (now (flags .entry)))))
+        (now («out_buoys» .entry)) ⌝ }
+    ensures { λ _. ⌜ now (counts .exit) ≡ leaves (mapAnswer (ofPieces pieceCounts)
+        (splitString (now (v .entry)) (now (buoys .entry)) closed (now (extra .entry)) (now («extra_buoys» .entry)) (length (now (out .entry)))
+        (length (now («out_buoys» .entry))) (length (now (counts .entry))) (length (now (flags .entry)))))
+        (now (counts .entry)) ⌝ }
+    ensures { λ _. ⌜ now (flags .exit) ≡ leaves (mapAnswer (ofPieces pieceFlags)
+        (splitString (now (v .entry)) (now (buoys .entry)) closed (now (extra .entry)) (now («extra_buoys» .entry)) (length (now (out .entry)))
+        (length (now («out_buoys» .entry))) (length (now (counts .entry))) (length (now (flags .entry)))))
+        (now (flags .entry)) ⌝ }
 {
-    let checked = check::first_of(
-        check::check_string(v, buoys),
-        check::check_points(extra, extra_buoys),
+    let checked = checks::first_of(
+        checks::check_string(v, buoys),
+        checks::check_points(extra, extra_buoys),
     );
     if let Checked::Refused(e) = checked {
         return Split::Refused(e);
     }
     let n = v.len() / 3;
-    let mut work = [0.0; 3072];
-    let mut numbers = [0; 1024];
-    let mut sizes = [0; 1024];
-    let mut closings = [0; 1024];
+    let mut work = [0.0; MOST_FLOATS];
+    let mut numbers = [0; MOST_POINTS];
+    let mut sizes = [0; MOST_POINTS];
+    let mut closings = [0; MOST_POINTS];
     vertex::copy_run(v, 0, n, &mut work, 0);
     vertex::copy_buoys(buoys, 0, n, &mut numbers, 0);
     sizes[0] = n;

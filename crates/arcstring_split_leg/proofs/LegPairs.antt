@@ -9,10 +9,10 @@ use lib.Ieee.{Float, nan}
 use Rattle.sphericalpoint.specs.declared.SphericalPoint.{SphericalPoint}
 use Rattle.arcstring.specs.Points.{points, pointAt, noPoint}
 use Rattle.arcstring.specs.Splice.{splice}
-use Rattle.arcstring.proofs.Flat.{points-append, point-at}
 use Rattle.arcstring.specs.Work.{firstOfList}
+use Rattle.arcstring.specs.Leg.{Leg, leg}
+use Rattle.arcstring.proofs.Flat.{points-append, point-at}
 use Rattle.arcstring.proofs.Firsts.{length-first-of-list}
-use Rattle.arcstring_crossing.specs.Crossing.{Leg, leg}
 use Rattle.arcstring_insert.specs.Insert.{insertAt}
 use Rattle.arcstring_insert.proofs.Shifts.{floats}
 use Rattle.arcstring_insert.proofs.Inserted.{take-first, drop-first, first-inserted}
@@ -32,7 +32,8 @@ length-legs-of m (p ∷ []) h = absurd (omega arith)
 length-legs-of zero (p ∷ q ∷ ps) h = absurd (omega arith)
 length-legs-of (suc m) (p ∷ q ∷ ps) h = ap suc (length-legs-of m ps (omega arith))
 
-pub leg-of-points : (k : ℕ) (ps : List SphericalPoint) (d : Leg) (e : SphericalPoint) → 2 * k + 1 < length ps → getD (legsOf ps) k d ≡ leg (getD ps (2 * k) e) (getD ps (2 * k + 1) e)
+pub leg-of-points : (k : ℕ) (ps : List SphericalPoint) (d : Leg) (e : SphericalPoint) → 2 * k + 1 < length ps
+    → getD (legsOf ps) k d ≡ leg (getD ps (2 * k) e) (getD ps (2 * k + 1) e)
 unfolding legsOf
 leg-of-points k [] d e h = absurd (omega arith)
 leg-of-points k (p ∷ []) d e h = absurd (omega arith)
@@ -70,15 +71,23 @@ points-of-legs m (p ∷ []) h = absurd (omega arith)
 points-of-legs zero (p ∷ q ∷ ps) h = absurd (omega arith)
 points-of-legs (suc m) (p ∷ q ∷ ps) h = ap (λ (rs : List SphericalPoint). p ∷ q ∷ rs) (points-of-legs m ps (omega arith))
 
--- ---- the leg at a place of a list that is worked on
+-- ---- the legs that stand at the start of a list that is worked on
+
+abbrev pub firstLegs : ℕ → List Float → List Leg
+firstLegs m w = legsOf (firstOfList (2 * m) w)
+
+pub length-legs-of-first : (m : ℕ) (w : List Float) → 6 * m ≤ length w → length (firstLegs m w) ≡ m
+length-legs-of-first m w room = length-legs-of m (firstOfList (2 * m) w) (length-first-of-list (2 * m) w (omega arith))
 
 first-point : (w : List Float) (n j : ℕ) → j < n → 3 * n ≤ length w → getD (firstOfList n w) j noPoint ≡ pointAt w j
 unfolding firstOfList
 first-point w n j h room =
     point-at (take (3 * n) w) j noPoint (omega (arith, length-take-le (3 * n) w room))
-    ∙ rw (getD-take (3 * n) w (3 * j) nan (omega arith), getD-take (3 * n) w (3 * j + 1) nan (omega arith), getD-take (3 * n) w (3 * j + 2) nan (omega arith))
+    ∙ (let same : (i : ℕ) → i < 3 * n → getD (take (3 * n) w) i nan ≡ getD w i nan = λ i l. getD-take (3 * n) w i nan l in
+    rw (same (3 * j) (omega arith), same (3 * j + 1) (omega arith), same (3 * j + 2) (omega arith)))
 
-pub leg-of-first : (w : List Float) (m k : ℕ) (d : Leg) → k < m → 6 * m ≤ length w → getD (legsOf (firstOfList (2 * m) w)) k d ≡ leg (pointAt w (2 * k)) (pointAt w (2 * k + 1))
+pub leg-of-first : (w : List Float) (m k : ℕ) (d : Leg) → k < m → 6 * m ≤ length w
+    → getD (firstLegs m w) k d ≡ leg (pointAt w (2 * k)) (pointAt w (2 * k + 1))
 leg-of-first w m k d h room =
     leg-of-points k (firstOfList (2 * m) w) d noPoint (omega (arith, length-first-of-list (2 * m) w (omega arith)))
     ∙ ap₂ leg (first-point w (2 * m) (2 * k) (omega arith) (omega arith)) (first-point w (2 * m) (2 * k + 1) (omega arith) (omega arith))
@@ -129,7 +138,8 @@ cut-points ps k p h =
     let f : 2 * k + 1 + 1 ≡ 2 * (k + 1) = omega arith in
     let t : take (2 * k + 1) ps ≡ front ++ (a ∷ []) = ap (λ (n : ℕ). take n ps) e ∙ take-suc ps (2 * k) noPoint (omega arith) in
     let first : take (2 * k + 1) ps ++ (p ∷ drop (2 * k + 1 + 1) ps) ≡ xs ++ rest =
-    ap₂ (λ (l : List SphericalPoint) (n : ℕ). l ++ (p ∷ drop n ps)) t f ∙ append-assoc front (a ∷ []) (p ∷ rest) ∙ sym (append-assoc front (a ∷ p ∷ []) rest) in
+    ap₂ (λ (l : List SphericalPoint) (n : ℕ). l ++ (p ∷ drop n ps)) t f
+    ∙ append-assoc front (a ∷ []) (p ∷ rest) ∙ sym (append-assoc front (a ∷ p ∷ []) rest) in
     ap (λ (l : List SphericalPoint). insertAt (2 * k + 2) p (insertAt (2 * k + 2) p l)) first
     ∙ ap (insertAt (2 * k + 2) p) (insert-between (2 * k + 2) p xs rest lx)
     ∙ insert-between (2 * k + 2) p xs (p ∷ rest) lx
@@ -147,12 +157,14 @@ cut-legs-of ps k p d h =
     ∙ ap (λ (q : SphericalPoint). take k (legsOf ps) ++ (leg q p ∷ leg p p ∷ drop (k + 1) (legsOf ps))) a
 
 -- w1 after the point is written, w2 and w3 after it is put in
-pub first-cut : (w w1 w2 w3 : List Float) (m k : ℕ) (p : SphericalPoint) (d : Leg) → k < m → 6 * m + 6 ≤ length w → length w1 ≡ length w → length w2 ≡ length w1
+pub first-cut : (w w1 w2 w3 : List Float) (m k : ℕ) (p : SphericalPoint) (d : Leg) → k < m → 6 * m + 6 ≤ length w
+    → length w1 ≡ length w → length w2 ≡ length w1
     → w1 ≡ splice w (3 * (2 * k + 1)) (floats p)
     → w2 ≡ splice w1 (3 * (2 * k + 2)) (floats p ++ take (3 * (2 * m - (2 * k + 2))) (drop (3 * (2 * k + 2)) w1))
     → w3 ≡ splice w2 (3 * (2 * k + 2)) (floats p ++ take (3 * (2 * m + 1 - (2 * k + 2))) (drop (3 * (2 * k + 2)) w2))
-    → legsOf (firstOfList (2 * (m + 1)) w3)
-    ≡ take k (legsOf (firstOfList (2 * m) w)) ++ (leg (getD (legsOf (firstOfList (2 * m) w)) k d .from) p ∷ leg p p ∷ drop (k + 1) (legsOf (firstOfList (2 * m) w)))
+    → firstLegs (m + 1) w3
+    ≡ take k (firstLegs m w)
+    ++ (leg (getD (firstLegs m w) k d .from) p ∷ leg p p ∷ drop (k + 1) (firstLegs m w))
 first-cut w w1 w2 w3 m k p d h room l1 l2 written once twice =
     let ps = firstOfList (2 * m) w in
     let within : 2 * k + 1 < length ps = omega (arith, length-first-of-list (2 * m) w (omega arith)) in
@@ -160,6 +172,7 @@ first-cut w w1 w2 w3 m k p d h room l1 l2 written once twice =
     ap (λ (n : ℕ). legsOf (firstOfList n w3)) e
     ∙ ap legsOf (first-inserted w2 w3 (2 * m + 1) (2 * k + 2) p (omega arith) (omega arith) twice)
     ∙ ap (λ (qs : List SphericalPoint). legsOf (insertAt (2 * k + 2) p qs)) (first-inserted w1 w2 (2 * m) (2 * k + 2) p (omega arith) (omega arith) once)
-    ∙ ap (λ (qs : List SphericalPoint). legsOf (insertAt (2 * k + 2) p (insertAt (2 * k + 2) p qs))) (first-set w w1 (2 * m) (2 * k + 1) p (omega arith) (omega arith) written)
+    ∙ ap (λ (qs : List SphericalPoint). legsOf (insertAt (2 * k + 2) p (insertAt (2 * k + 2) p qs)))
+    (first-set w w1 (2 * m) (2 * k + 1) p (omega arith) (omega arith) written)
     ∙ ap legsOf (cut-points ps k p within)
     ∙ cut-legs-of ps k p d within

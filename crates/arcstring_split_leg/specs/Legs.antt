@@ -3,11 +3,15 @@ use mathlib.Core.List.{List, [], _∷_}
 use Prim.Native.Nat.{ℕ, _*_}
 use lib.Ieee.{Float}
 use Rattle.sphericalpoint.specs.declared.SphericalPoint.{SphericalPoint}
-use Rattle.arcstring.specs.Answer.{Answer, refused, answered, refusalNumber}
+use Rattle.arcstring_check.specs.Answer.{Answer, refused, answered, refusalNumber}
 use Rattle.arcstring.specs.Work.{firstOfList}
-use Rattle.arcstring_crossing.specs.Crossing.{Leg, leg}
-use Rattle.arcstring_split_leg.specs.declared.split.Cut.{Cut}
-use Rattle.arcstring_split_leg.specs.declared.split.Cut.the-variants as C
+use Rattle.arcstring.specs.Leg.{Leg, leg}
+use Rattle.arcstring_split_leg.specs.declared.inner.Cut.{Cut}
+use Rattle.arcstring_split_leg.specs.declared.inner.Cut.the-variants as C
+
+-- the most legs of two points each that a list of points holds
+abbrev pub mostLegs : ℕ
+mostLegs = 512
 
 -- points taken two by two, as the legs of a split leg stand
 unfoldable pub legsOf : List SphericalPoint → List Leg

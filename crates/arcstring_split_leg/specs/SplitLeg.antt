@@ -7,10 +7,10 @@ use lib.ListN.{length, getD, take, drop}
 use lib.Ieee.{Float}
 use Rattle.sphericalpoint.specs.declared.SphericalPoint.{SphericalPoint}
 use Rattle.sphericalpoint.specs.Vector.{xyzEq}
-use Rattle.arcstring.specs.Answer.{Answer, refused, answered, unlessRefused, andThen, pick, refusalNumber}
+use Rattle.arcstring_check.specs.Answer.{Answer, refused, answered, unlessRefused, andThen, pick, refusalNumber}
 use Rattle.arcstring.specs.Points.{points, flat, noPoint}
-use Rattle.arcstring.specs.Check.{roomCheck}
-use Rattle.arcstring_crossing.specs.Crossing.{Leg, leg, legCheck}
+use Rattle.arcstring_check.specs.Check.{roomCheck}
+use Rattle.arcstring.specs.Leg.{Leg, leg, legCheck}
 use Rattle.arcstring_along.specs.OnString.{alongLeg}
 use Rattle.arcstring_insert.specs.Steps.{forEach, forPositions, extraCheck, limited}
 use Rattle.arcstring_split_leg.specs.declared.split.Split.{Split}
@@ -73,4 +73,5 @@ legsInto room (some ls) = unlessRefused (roomCheck (6 * length ls) room) (answer
 
 unfoldable pub splitLeg : Leg → List Float → ℕ → Answer (Option (List Leg))
 splitLeg l extra room =
-    unlessRefused (legCheck l) (unlessRefused (extraCheck extra) (andThen (forEach cutLegs (points extra) (l ∷ [])) (λ (ls : List Leg). legsInto room (unlessUncut ls))))
+    unlessRefused (legCheck l)
+    (unlessRefused (extraCheck extra) (andThen (forEach cutLegs (points extra) (l ∷ [])) (λ (ls : List Leg). legsInto room (unlessUncut ls))))

@@ -1,9 +1,9 @@
 -- Strings alike but for the values of their numbers are answered alike by every call: each call without the numbers is the one over points, after checks
 -- that look only at how many numbers there are. Assumes nothing.
 use mathlib.Core.Path.{sym, _∙_}
-use Rattle.arcstring.specs.Points.{points}
-use Rattle.arcstring.proofs.WithoutBuoys.{lent-alike, back-without, restart-without}
-use Rattle.arcstring.proofs.BuildsWithout.{into-alike, build-without, flagged-without}
+use Rattle.arcstring.proofs.WithoutBuoys.{lent-alike}
+use Rattle.arcstring_walk.proofs.WalksWithout.{back-without, restart-without}
+use Rattle.arcstring_build.proofs.BuildsWithout.{into-alike, build-without, flagged-without}
 use Rattle.arcstring_simplify.proofs.SimplifiesWithout.{simplify-without}
 use Rattle.arcstring_insert.proofs.InsertsWithout.{insert-alike}
 use Rattle.arcstring_split.proofs.SplitsWithout.{split-alike}

@@ -6,10 +6,11 @@ use mathlib.Core.List.{List}
 use Prim.Native.Nat.{ℕ}
 use lib.ListN.{length}
 use lib.Ieee.{Float}
-use Rattle.arcstring.specs.Answer.{mapAnswer}
+use Rattle.arcstring_check.specs.Answer.{mapAnswer}
 use Rattle.arcstring.specs.Points.{unnumbered}
-use Rattle.arcstring.specs.Build.{build, buildFlagged}
-use Rattle.arcstring.specs.Walk.{walkBack, restart, withoutBuoys}
+use Rattle.arcstring_build.specs.Build.{build, buildFlagged}
+use Rattle.arcstring_walk.specs.Walk.{walkBack, restart}
+use Rattle.arcstring.specs.Written.{withoutBuoys}
 use Rattle.arcstring_simplify.specs.Simplify.{simplify}
 use Rattle.arcstring_insert.specs.Insert.{insertVertices}
 use Rattle.arcstring_split.specs.Split.{splitString}

@@ -1,4 +1,5 @@
--- The laws of arithmetic that hold of floats as data, the signs of zeros included: of negation, of the size, and of the order of a sum's and a product's operands.
+-- The laws of arithmetic that hold of floats as data, the signs of zeros included: of negation, of the size, and of the order of a sum's and a product's
+-- operands.
 -- For every format and all floats, NaN and the infinities included. Assumes nothing.
 use mathlib.Core.Path.{_≡_, refl, sym, ap, _∙_}
 use Prim.Native.Nat.{ℕ, _-_, _*_}

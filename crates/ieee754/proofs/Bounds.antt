@@ -1,8 +1,10 @@
--- Bounds on sizes: a fraction of at most 2 ^ k rounds to a float of at most 2 ^ k, so from bounds on the operands come bounds on a product, a sum and a difference,
+-- Bounds on sizes: a fraction of at most 2 ^ k rounds to a float of at most 2 ^ k, so from bounds on the operands come bounds on a product, a sum and a
+-- difference,
 -- as long as the format reaches that far. A float under a bound is finite. For every format. Assumes nothing.
 use mathlib.Core.Path.{_≡_, refl, sym, ap, _∙_, subst}
 use Prim.Native.Nat.{ℕ, zero, suc, _+_, _-_, _*_, _^_, _≤_, _<_, max}
-use native.Mathlib.Nat.{le-trans, le-of-eq, le-of-lt, le-max-left, le-max-right, zero-lt-suc, mul-comm, mul-assoc, mul-one, one-mul, mul-right-comm, mul-mul-mul-comm, mul-le-mul, mul-le-mul-right, le-of-mul-le-mul-right, mul-pos, add-mul, add-le-add, two-pow-succ}
+use native.Mathlib.Nat.{le-trans, le-of-eq, le-of-lt, le-max-left, le-max-right, zero-lt-suc, mul-comm, mul-assoc, mul-one, one-mul, mul-right-comm}
+use native.Mathlib.Nat.{mul-mul-mul-comm, mul-le-mul, mul-le-mul-right, le-of-mul-le-mul-right, mul-pos, add-mul, add-le-add, two-pow-succ}
 use native.Mathlib.Omega.{arith}
 use mathlib.Core.Bool.{Bool, true, false, _&&_, _||_, cond, Bool·beq, true≢false}
 use lib.IntN.{ℤ, pos}
@@ -181,7 +183,8 @@ cond-at-most : (k : ℕ) (b : Bool) (x y : Float) → AtMost k x → AtMost k y 
 cond-at-most k true x y h g = h
 cond-at-most k false x y h g = g
 
-sum-at-most : (f : Format) (k : ℕ) (s : Bool) (a : ℕ) (t : Bool) (b c : ℕ) → 0 < c → suc k ≤ emax f → a ≤ 2 ^ k * c → b ≤ 2 ^ k * c → AtMost (suc k) (sum f s a t b c)
+sum-at-most : (f : Format) (k : ℕ) (s : Bool) (a : ℕ) (t : Bool) (b c : ℕ) → 0 < c → suc k ≤ emax f → a ≤ 2 ^ k * c → b ≤ 2 ^ k * c
+    → AtMost (suc k) (sum f s a t b c)
 unfolding sum
 sum-at-most f k s a t b c C r h g =
     let twice : 2 ^ k * c + 2 ^ k * c ≡ 2 ^ suc k * c = sym (add-mul (2 ^ k) (2 ^ k) c) ∙ ap (λ (z : ℕ). z * c) (sym (two-pow-succ k)) in

@@ -1,4 +1,5 @@
--- The value of a sum, a difference, a product, a negation and a size depends on the operands' values alone, so +0 and -0 may stand for each other; and by value a negation
+-- The value of a sum, a difference, a product, a negation and a size depends on the operands' values alone, so +0 and -0 may stand for each other; and by value
+-- a negation
 -- goes through a sum and a difference. Equal values are what `Alike` says. For every format and all floats, NaN and the infinities included. Assumes nothing.
 use mathlib.Core.Path.{_≡_, refl, sym, ap, ap₂, _∙_}
 use mathlib.Core.Logic.{inl, inr}
@@ -11,7 +12,8 @@ use lib.IntN.{ℤ, pos}
 use lib.Ieee.{Float, nan, inf, fin, Format, up, down, unlike, round, neg, sum, add, sub, mul}
 use lib.Ieee.Fits.{down-pos}
 use lib.Ieee.Scale.{round-same}
-use Rattle.ieee754.specs.Value.{Value, vnan, vinf, vzero, vnum, value, float, isZero, Alike}
+use Rattle.ieee754.proofs.Tests.{never}
+use Rattle.ieee754.specs.Value.{Value, vnan, vinf, vzero, vnum, value, float, isZero}
 use Rattle.ieee754.specs.Size.{abs}
 use Rattle.ieee754.specs.ValueLaws.{ValueAlike, AlikeValue, AddValue, SubValue, MulValue, NegValue, AbsValue, NegAdd, NegSub, SubSwap}
 use Rattle.ieee754.proofs.Rounding.{round-neg, round-zero}
@@ -34,25 +36,22 @@ pub alike-value : AlikeValue
 alike-value x y (inl e) = ap value e
 alike-value x y (inr z) = zero-value x (z .0) ∙ sym (zero-value y (z .1))
 
-never : {X : Type 0} → _≡_ {A = ℕ} 0 1 → X
-never e = absurd (let z : _≡_ {A = ℕ} 0 1 = e in omega arith)
-
 pub value-alike : ValueAlike
 value-alike nan nan p = inl refl
-value-alike nan (inf t) p = never (cc)
-value-alike nan (fin t zero d) p = never (cc)
-value-alike nan (fin t (suc n) d) p = never (cc)
-value-alike (inf s) nan p = never (cc)
+value-alike nan (inf t) p = never cc
+value-alike nan (fin t zero d) p = never cc
+value-alike nan (fin t (suc n) d) p = never cc
+value-alike (inf s) nan p = never cc
 value-alike (inf s) (inf t) p = inl (cc)
-value-alike (inf s) (fin t zero d) p = never (cc)
-value-alike (inf s) (fin t (suc n) d) p = never (cc)
-value-alike (fin s zero e) nan p = never (cc)
-value-alike (fin s zero e) (inf t) p = never (cc)
+value-alike (inf s) (fin t zero d) p = never cc
+value-alike (inf s) (fin t (suc n) d) p = never cc
+value-alike (fin s zero e) nan p = never cc
+value-alike (fin s zero e) (inf t) p = never cc
 value-alike (fin s zero e) (fin t zero d) p = inr (tt, tt)
-value-alike (fin s zero e) (fin t (suc n) d) p = never (cc)
-value-alike (fin s (suc m) e) nan p = never (cc)
-value-alike (fin s (suc m) e) (inf t) p = never (cc)
-value-alike (fin s (suc m) e) (fin t zero d) p = never (cc)
+value-alike (fin s zero e) (fin t (suc n) d) p = never cc
+value-alike (fin s (suc m) e) nan p = never cc
+value-alike (fin s (suc m) e) (inf t) p = never cc
+value-alike (fin s (suc m) e) (fin t zero d) p = never cc
 value-alike (fin s (suc m) e) (fin t (suc n) d) p = inl (cc)
 
 -- ---- a sum with a zero: whatever the zero's sign, and however it is written
@@ -86,7 +85,8 @@ unfolding add
 add-zero-is f s e t n d =
     ap (λ (a : ℕ). value (sum f s a t (n * up d * down e) (down e * down d))) (zero-times (up e) (down d))
     ∙ sum-zero f s t (n * up d * down e) (down e * down d)
-    ∙ ap value (round-same f t (n * up d * down e) (down e * down d) (n * up d) (down d) (mul-pos (down-pos e) (down-pos d)) (down-pos d) (mul-assoc (n * up d) (down e) (down d)))
+    ∙ ap value (round-same f t (n * up d * down e) (down e * down d) (n * up d) (down d) (mul-pos (down-pos e) (down-pos d)) (down-pos d)
+    (mul-assoc (n * up d) (down e) (down d)))
 
 add-float-left : (f : Format) (x y : Float) → value (add f x y) ≡ value (add f (float (value x)) y)
 add-float-left f nan y = refl

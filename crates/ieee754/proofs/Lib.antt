@@ -1,5 +1,7 @@
--- The laws of the kit's floats, all for others to cite: of values and signs (`Rounding`, `Arithmetic`, `ByValue`, `Comparisons`), of sizes (`Bounds`), and of
+-- The laws of the kit's floats, all for others to cite: of joined tests (`Tests`), of values and signs (`Rounding`, `Arithmetic`, `ByValue`, `Comparisons`), of
+-- sizes (`Bounds`), and of
 -- how far rounded operations lie from the exact ones (`Units`, `Spacing`, `Rounded`, `Operations`, in the words of `Closeness`).
+pub mod Tests
 pub mod Rounding
 pub mod Arithmetic
 pub mod ByValue

@@ -1,7 +1,7 @@
 -- How far a product, a sum and a quotient lie from the exact one, and that a sum of two floats from 0 up is no smaller than either. Each operation is
 -- `round` of a fraction, which is written over whole units here. For both formats. Assumes nothing.
 use mathlib.Core.Path.{_≡_, refl, sym, ap, _∙_, subst}
-use mathlib.Core.Bool.{Bool, true, false, not, cond}
+use mathlib.Core.Bool.{Bool, true, false, cond}
 use Prim.Native.Nat.{ℕ, zero, suc, _+_, _*_, _^_, _≤_, _<_, zero-le}
 use native.Mathlib.Nat.{le-trans, le-of-eq, one-mul, mul-assoc, mul-pos, mul-mul-mul-comm, eq-of-mul-eq-mul-right, zero-lt-suc}
 use native.Mathlib.Omega.{arith}

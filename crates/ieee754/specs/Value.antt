@@ -1,4 +1,5 @@
--- The value of a float: what is left of it when +0 and -0 are made one. Two floats that a format holds have the same value exactly when they are the same float or two zeros.
+-- The value of a float: what is left of it when +0 and -0 are made one. Two floats that a format holds have the same value exactly when they are the same float
+-- or two zeros.
 -- Definitions only.
 use mathlib.Core.Path.{_≡_}
 use mathlib.Core.Logic.{_⊎_}

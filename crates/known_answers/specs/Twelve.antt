@@ -8,13 +8,14 @@ use Prim.Native.Nat.{ℕ}
 use lib.IntN.{pos, negsuc}
 use lib.Ieee.{Float, fin}
 use Rattle.sphericalpoint.specs.declared.SphericalPoint.{SphericalPoint}
-use Rattle.sphericalpoint.specs.Sqrt.{sqrtOf}
-use Rattle.arcstring.specs.Answer.{Answer, refused, answered}
-use Rattle.arcstring.specs.declared.vertex.Vertex.{Vertex}
+use Rattle.square_root.specs.Sqrt.{sqrtOf}
+use Rattle.arcstring_check.specs.Answer.{Answer, refused, answered}
+use Rattle.arcstring.specs.declared.inner.vertex.Vertex.{Vertex}
 use Rattle.arcstring.specs.Points.{StringOf, ArcString, point, flat}
 use Rattle.arcstring.specs.Point.{coplanarPoints}
-use Rattle.arcstring.specs.Build.{builtString, build}
-use Rattle.arcstring_crossing.specs.Crossing.{Leg, leg, Judged, arcsCrossing}
+use Rattle.arcstring_build.specs.Build.{builtString, build}
+use Rattle.arcstring.specs.Leg.{Leg, leg}
+use Rattle.arcstring_pair.specs.Pair.{Judged, arcsCrossing}
 use Rattle.arcstring_simplify.specs.Simplify.{simplify}
 
 pub data Known : Type 0 where

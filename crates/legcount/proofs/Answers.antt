@@ -1,7 +1,7 @@
 -- What a read answered, a signed number whose bits the code tests, and what it put into the buffer: nothing at the end, and from 1 to 4,096 bytes where more
 -- came. Assumes nothing.
 use mathlib.Core.Path.{_≡_, refl, sym, ap, _∙_}
-use mathlib.Core.Bool.{Bool, true, false}
+use mathlib.Core.Bool.{false, true≢false}
 use mathlib.Core.List.{List, []}
 use Prim.Native.Nat.{ℕ, zero, suc, min}
 use native.Mathlib.Nat.{zero-min}
@@ -15,7 +15,7 @@ use mir.ValLaws.{toZ-ofZ}
 use Rattle.io.specs.Counts.{clamped}
 use Rattle.textform.specs.Text.{State, fedWith}
 use Rattle.textform.specs.Kept.{keep}
-use Rattle.textform.specs.Pieces.{OneRead}
+use Rattle.textform.specs.Pieces.{mostRead, OneRead}
 
 -- what is fed is what was read: n bytes of a buffer that is as long as before
 pub fed-as-read : (got : ℤ) (s held : State) (n old : ℕ) (bytes : List ℕ) → held ≡ fedWith keep s (take n bytes) → n ≡ clamped got (length bytes)
@@ -23,9 +23,9 @@ pub fed-as-read : (got : ℤ) (s held : State) (n old : ℕ) (bytes : List ℕ) 
 fed-as-read got s held n old bytes h c l = h ∙ ap (λ (k : ℕ). fedWith keep s (take k bytes)) (c ∙ ap (clamped got) l)
 
 -- an answer above 0
-some-bytes : (got : ℤ) (most : ℕ) (bytes : List ℕ) → (got ≡ pos 0 → ⊥) → ltZ got (pos 0) ≡ false → most ≡ 4096 → length bytes ≡ 4096
+some-bytes : (got : ℤ) (most : ℕ) (bytes : List ℕ) → (got ≡ pos 0 → ⊥) → ltZ got (pos 0) ≡ false → most ≡ mostRead → length bytes ≡ mostRead
     → OneRead (take (clamped got most) bytes)
-some-bytes (negsuc k) most bytes h n m l = absurd (let z : _≡_ {A = Bool} true false = n in let y : _≡_ {A = ℕ} 0 1 = cc in omega arith)
+some-bytes (negsuc k) most bytes h n m l = absurd (true≢false n)
 some-bytes (pos zero) most bytes h n m l = absurd (h refl)
 some-bytes (pos (suc k)) most bytes h n m l = let t = length-take (min (suc k) most) bytes in (omega arith, omega arith)
 
@@ -38,7 +38,7 @@ module _ (got : ℤ) (fits : SFits w64 got) where
   nothing-read most bytes h = ap (λ (z : ℤ). take (clamped z most) bytes) (at-end h) ∙ ap (λ (k : ℕ). take k bytes) (zero-min most)
 
   -- some were
-  pub some-read : (most : ℕ) (bytes : List ℕ) → (ofZ w64 got ≡ 0 → ⊥) → ltZ (toZ w64 (ofZ w64 got)) (pos 0) ≡ false → most ≡ 4096 → length bytes ≡ 4096
+  pub some-read : (most : ℕ) (bytes : List ℕ) → (ofZ w64 got ≡ 0 → ⊥) → ltZ (toZ w64 (ofZ w64 got)) (pos 0) ≡ false → most ≡ mostRead → length bytes ≡ mostRead
       → OneRead (take (clamped got most) bytes)
   some-read most bytes h n m l =
       some-bytes got most bytes (λ e. h (ap (ofZ w64) e)) (sym (ap (λ (z : ℤ). ltZ z (pos 0)) (toZ-ofZ w64 got fits)) ∙ n) m l

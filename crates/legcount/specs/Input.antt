@@ -5,6 +5,7 @@ use Prim.Native.Nat.{ℕ, _≤_}
 use lib.ListN.{take}
 use lib.IntN.{pos}
 use lib.Ieee.{Float}
+use Rattle.textform.specs.Print.{printRoom}
 use Rattle.textform.specs.Pieces.{ReadInPieces, PrintedOfPieces}
 use Rattle.legcount.specs.declared.Input.{Input}
 use Rattle.legcount.specs.declared.Input.the-variants as I
@@ -18,5 +19,5 @@ HeldWhole I.Failed a b = Unit
 
 -- the first n bytes are what is printed for the whole input
 abbrev pub PrintsWhole : Said → List ℕ → Type 0
-PrintsWhole (S.Text n) out = PrintedOfPieces (take n out) × (n ≤ 128)
+PrintsWhole (S.Text n) out = PrintedOfPieces (take n out) × (n ≤ printRoom)
 PrintsWhole S.Failed out = Unit

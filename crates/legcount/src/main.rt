@@ -12,12 +12,14 @@ ghost use mathlib.Core.Path.{_≡_};
 ghost use lib.ListN.{length, take};
 ghost use Rattle.io.specs.Counts.{clamped};
 ghost use Rattle.textform.specs.Text.{fedWith};
-ghost use Rattle.textform.specs.Kept.{heldState, Sound};
+ghost use Rattle.textform.specs.Kept.{floatsKept, heldState, Sound};
 ghost use Rattle.textform.specs.Kept as Kept;
+ghost use Rattle.textform.specs.Print.{printRoom};
 ghost use Rattle.legcount.specs.Input.{HeldWhole, PrintsWhole};
-use textform::count;
-use textform::read;
-use textform::read::Reader;
+use textform::inner::count;
+use textform::inner::print;
+use textform::inner::read;
+use textform::inner::read::Reader;
 
 // The reader after one read of the input, and what that read answered: how many bytes, 0 at the end, or a negative number.
 struct Turn {
@@ -39,8 +41,9 @@ enum Said {
 
 // One read, and what it gave fed, however little that is.
 fn read_some(r: Reader, bytes: &mut [u8], a: &mut [f64], b: &mut [f64]) -> Turn
-    requires { ⌜ Sound r × (length (now a) ≡ 3075) × (length (now b) ≡ 3075) ⌝ }
-    ensures { λ t. ⌜ Sound (t .reader) × (heldState (t .reader) (now (a .exit)) (now (b .exit)) ≡ fedWith Kept.keep (heldState r (now (a .entry)) (now (b .entry))) (take (clamped (t .got) (length (now (bytes .entry)))) (now (bytes .exit)))) ⌝ }
+    requires { ⌜ Sound r × (length (now a) ≡ floatsKept) × (length (now b) ≡ floatsKept) ⌝ }
+    ensures { λ t. ⌜ Sound (t .reader) × (heldState (t .reader) (now (a .exit)) (now (b .exit))
+        ≡ fedWith Kept.keep (heldState r (now (a .entry)) (now (b .entry))) (take (clamped (t .got) (length (now (bytes .entry)))) (now (bytes .exit)))) ⌝ }
 {
     let got = libc::read(libc::STDIN_FILENO, bytes);
     let n = io::count(got, bytes);
@@ -51,7 +54,7 @@ fn read_some(r: Reader, bytes: &mut [u8], a: &mut [f64], b: &mut [f64]) -> Turn
 // The input to its end. A proved loop has to end, and nothing says that the input does: so the loop counts its turns down, from a
 // number that no run uses up. If one did, its input would not be whole.
 fn read_all(a: &mut [f64], b: &mut [f64]) -> Input
-    requires { ⌜ (length (now a) ≡ 3075) × (length (now b) ≡ 3075) ⌝ }
+    requires { ⌜ (length (now a) ≡ floatsKept) × (length (now b) ≡ floatsKept) ⌝ }
     ensures { λ i. ⌜ HeldWhole i (now (a .exit)) (now (b .exit)) ⌝ }
 {
     let mut bytes = io::buffer();
@@ -74,11 +77,11 @@ fn read_all(a: &mut [f64], b: &mut [f64]) -> Input
 
 // The input read, and what is printed for it at the start of `out`.
 fn read_and_count(out: &mut [u8]) -> Said
-    requires { ⌜ length (now out) ≡ 128 ⌝ }
+    requires { ⌜ length (now out) ≡ printRoom ⌝ }
     ensures { λ s. ⌜ PrintsWhole s (now (out .exit)) ⌝ }
 {
-    let mut a = [0.0; 3075];
-    let mut b = [0.0; 3075];
+    let mut a = [0.0; read::FLOATS_KEPT];
+    let mut b = [0.0; read::FLOATS_KEPT];
     let input = read_all(&mut a, &mut b);
     match input {
         Input::Whole(last) => Said::Text(count::conclude(last.reader, &a, &b, out)),
@@ -92,7 +95,7 @@ fn complain(line: &[u8]) {
 }
 
 fn main() {
-    let mut out = [0u8; 128];
+    let mut out = [0u8; print::PRINT_ROOM];
     let said = read_and_count(&mut out);
     match said {
         Said::Text(n) => {

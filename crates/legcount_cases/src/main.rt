@@ -1,12 +1,12 @@
 // What the counting program prints for inputs other than its own stored one, each line of it after the other: the gate compares.
 ghost use Prim.Native.Nat.{_≤_};
 ghost use lib.ListN.{length};
-use textform::count;
-use textform::print;
+use textform::inner::count;
+use textform::inner::print;
 
 // One input's output.
 fn show(input: &[u8]) {
-    let mut out = [0u8; 128];
+    let mut out = [0u8; print::PRINT_ROOM];
     let n = count::count_text(input, &mut out);
     io::write_all(1, &out[..n]);
 }
@@ -42,32 +42,66 @@ fn show_longest() {
     );
 }
 
-fn main() {
-    // document 01's example
+// Document 01's example.
+fn show_example() {
     show(
-        b"string x y z\nA 3FF0000000000000 BFE0000000000000 0000000000000000\nA 3FF0000000000000 3FE0000000000000 0000000000000000\nB 3FF0000000000000 0000000000000000 BFE0000000000000\nB 3FF0000000000000 0000000000000000 3FE0000000000000\n",
+        b"string x y z\n\
+          A 3FF0000000000000 BFE0000000000000 0000000000000000\n\
+          A 3FF0000000000000 3FE0000000000000 0000000000000000\n\
+          B 3FF0000000000000 0000000000000000 BFE0000000000000\n\
+          B 3FF0000000000000 0000000000000000 3FE0000000000000\n",
     );
-    // no input at all; the names alone; A with one point, before B's NaN; a NaN in B
+}
+
+// No input at all; the names alone; A with one point, before B's NaN; a NaN in B.
+fn show_refused() {
     show(b"");
     show(b"string x y z\n");
     show(
-        b"string x y z\nB 7FF8000000000000 0000000000000000 0000000000000000\nA 3FF0000000000000 0000000000000000 0000000000000000\n",
+        b"string x y z\n\
+          B 7FF8000000000000 0000000000000000 0000000000000000\n\
+          A 3FF0000000000000 0000000000000000 0000000000000000\n",
     );
     show(
-        b"string x y z\nA 3FF0000000000000 0000000000000000 0000000000000000\nA 0000000000000000 3FF0000000000000 0000000000000000\nB 7FF8000000000000 0000000000000000 0000000000000000\nB 3FF0000000000000 0000000000000000 0000000000000000\n",
+        b"string x y z\n\
+          A 3FF0000000000000 0000000000000000 0000000000000000\n\
+          A 0000000000000000 3FF0000000000000 0000000000000000\n\
+          B 7FF8000000000000 0000000000000000 0000000000000000\n\
+          B 3FF0000000000000 0000000000000000 0000000000000000\n",
     );
-    // malformed, though A has one point: lower case, a carriage return, a third name, no line feed at the end, two blanks
+}
+
+// Malformed, though A has one point: lower case, a carriage return, a third name, no line feed at the end, two blanks.
+fn show_malformed() {
     show(b"string x y z\nA 3ff0000000000000 0000000000000000 0000000000000000\n");
     show(b"string x y z\r\nA 3FF0000000000000 0000000000000000 0000000000000000\r\n");
     show(b"string x y z\nC 3FF0000000000000 0000000000000000 0000000000000000\n");
     show(b"string x y z\nA 3FF0000000000000 0000000000000000 0000000000000000");
     show(b"string x y z\nA 3FF0000000000000 0000000000000000  0000000000000000\n");
-    // document 01's example, with the rows of A and B mixed; an infinity in B
+}
+
+// Document 01's example, with the rows of A and B mixed; an infinity in B.
+fn show_mixed() {
     show(
-        b"string x y z\nB 3FF0000000000000 0000000000000000 BFE0000000000000\nA 3FF0000000000000 BFE0000000000000 0000000000000000\nB 3FF0000000000000 0000000000000000 3FE0000000000000\nA 3FF0000000000000 3FE0000000000000 0000000000000000\n",
+        b"string x y z\n\
+          B 3FF0000000000000 0000000000000000 BFE0000000000000\n\
+          A 3FF0000000000000 BFE0000000000000 0000000000000000\n\
+          B 3FF0000000000000 0000000000000000 3FE0000000000000\n\
+          A 3FF0000000000000 3FE0000000000000 0000000000000000\n",
     );
     show(
-        b"string x y z\nB 3FF0000000000000 0000000000000000 0000000000000000\nB 0000000000000000 FFF0000000000000 0000000000000000\nA 3FF0000000000000 0000000000000000 0000000000000000\nA 0000000000000000 3FF0000000000000 0000000000000000\n",
+        b"string x y z\n\
+          B 3FF0000000000000 0000000000000000 0000000000000000\n\
+          B 0000000000000000 FFF0000000000000 0000000000000000\n\
+          A 3FF0000000000000 0000000000000000 0000000000000000\n\
+          A 0000000000000000 3FF0000000000000 0000000000000000\n",
     );
+}
+
+fn main() {
+    show_example();
+    show_refused();
+    show_malformed();
+    show_mixed();
     show_longest();
 }

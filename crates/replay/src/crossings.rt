@@ -1,10 +1,10 @@
 // A pair of legs, the listings of crossings, and counts. What is printed: the number returned, the floats lent, the bytes, and then
 // the numbers.
-use crate::calls::BYTE;
-use crate::calls::COUNT;
-use crate::calls::FLOAT;
-use crate::calls::NUMBER;
-use crate::calls::six;
+use crate::lent::BYTE;
+use crate::lent::COUNT;
+use crate::lent::FLOAT;
+use crate::lent::NUMBER;
+use crate::lent::six;
 use crate::print;
 use crate::read::Request;
 
@@ -14,7 +14,13 @@ pub(crate) fn pair(a: &[f64], b: &[f64]) {
     let mut class = BYTE;
     let mut kept = BYTE;
     let mut point = [FLOAT; 3];
-    let n = arcstring_c::arcstring_pair(&first, &second, &mut class, &mut kept, &mut point);
+    let n = arcstring_c::crossing::arcstring_pair(
+        &first,
+        &second,
+        &mut class,
+        &mut kept,
+        &mut point,
+    );
     print::print_returned(n);
     print::print_point(&point);
     print::print_byte(class);
@@ -23,7 +29,7 @@ pub(crate) fn pair(a: &[f64], b: &[f64]) {
 
 pub(crate) fn count(q: Request, a: &[f64], b: &[f64]) {
     let mut counts = [COUNT; 4];
-    let n = arcstring_c::arcstring_count(a, q.first_flag, b, q.second_flag, &mut counts);
+    let n = arcstring_c::listing::arcstring_count(a, q.first_flag, b, q.second_flag, &mut counts);
     print::print_returned(n);
     print::print_counts(&counts);
 }
@@ -40,7 +46,7 @@ fn leg_crossings(q: Request, a: &[f64], b: &[f64], points: &mut [f64], marks: &m
     let leg = six(a);
     let mut kept = NUMBER;
     let mut counts = [COUNT; 4];
-    let n = arcstring_c::arcstring_leg_crossings(
+    let n = arcstring_c::listing::arcstring_leg_crossings(
         &leg,
         b,
         q.second_flag,
@@ -55,7 +61,7 @@ fn leg_crossings(q: Request, a: &[f64], b: &[f64], points: &mut [f64], marks: &m
 fn crossings(q: Request, a: &[f64], b: &[f64], points: &mut [f64], marks: &mut [u8]) {
     let mut kept = NUMBER;
     let mut counts = [COUNT; 4];
-    let n = arcstring_c::arcstring_crossings(
+    let n = arcstring_c::listing::arcstring_crossings(
         a,
         q.first_flag,
         b,
@@ -71,7 +77,13 @@ fn crossings(q: Request, a: &[f64], b: &[f64], points: &mut [f64], marks: &mut [
 fn crossings_with_self(a: &[f64], points: &mut [f64], marks: &mut [u8]) {
     let mut kept = NUMBER;
     let mut counts = [COUNT; 4];
-    let n = arcstring_c::arcstring_crossings_with_self(a, points, marks, &mut kept, &mut counts);
+    let n = arcstring_c::listing::arcstring_crossings_with_self(
+        a,
+        points,
+        marks,
+        &mut kept,
+        &mut counts,
+    );
     print_listing(n, points, marks, kept, &counts);
 }
 

@@ -14,6 +14,7 @@
 //
 //     read        a word, a list, the words before the lists
 //     print       words, floats, buoys, bytes and numbers
+//     lent        what stands in the places before a call, and a list's floats one by one
 //     calls       which function runs which call; these functions are in:
 //     verdicts    the calls that answer yes or no
 //     strings     the calls that write a string, or its pieces, with buoys
@@ -21,6 +22,7 @@
 //     crossings   a pair of legs, listings of crossings and counts
 mod calls;
 mod crossings;
+mod lent;
 mod print;
 mod read;
 mod strings;

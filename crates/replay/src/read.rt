@@ -2,8 +2,8 @@
 ghost use mathlib.Core.Path.{_≡_};
 ghost use Prim.Native.Nat.{_≤_};
 ghost use lib.ListN.{length, take};
-use textform::read;
-use textform::read::Digit;
+use textform::inner::read;
+use textform::inner::read::Digit;
 
 // The number of a word, unless the input ends or has no digits there.
 enum Word {

@@ -1,9 +1,9 @@
 // The calls that write a string, or the pieces of one, and the buoys of its vertices. What is printed: the number returned, the floats
 // lent, the buoys, the bytes, and then the numbers.
-use crate::calls::BUOY;
-use crate::calls::BYTE;
-use crate::calls::FLOAT;
-use crate::calls::NUMBER;
+use crate::lent::BUOY;
+use crate::lent::BYTE;
+use crate::lent::FLOAT;
+use crate::lent::NUMBER;
 use crate::print;
 use crate::read::Request;
 
@@ -17,7 +17,7 @@ fn print_string(n: u32, out: &[f64], out_buoys: &[u32], count: usize) {
 fn build(a: &[f64], buoys: &[u32], out: &mut [f64], out_buoys: &mut [u32]) {
     let mut count = NUMBER;
     let mut closed = BYTE;
-    let n = arcstring_c::arcstring_build(a, buoys, out, out_buoys, &mut count, &mut closed);
+    let n = arcstring_c::build::arcstring_build(a, buoys, out, out_buoys, &mut count, &mut closed);
     print::print_returned(n);
     print::print_floats(out);
     print::print_buoys(out_buoys);
@@ -27,7 +27,7 @@ fn build(a: &[f64], buoys: &[u32], out: &mut [f64], out_buoys: &mut [u32]) {
 
 fn build_flagged(q: Request, a: &[f64], buoys: &[u32], out: &mut [f64], out_buoys: &mut [u32]) {
     let mut count = NUMBER;
-    let n = arcstring_c::arcstring_build_flagged(
+    let n = arcstring_c::build::arcstring_build_flagged(
         a,
         buoys,
         q.first_flag,
@@ -40,13 +40,13 @@ fn build_flagged(q: Request, a: &[f64], buoys: &[u32], out: &mut [f64], out_buoy
 
 fn walk_back(a: &[f64], buoys: &[u32], out: &mut [f64], out_buoys: &mut [u32]) {
     let mut count = NUMBER;
-    let n = arcstring_c::arcstring_walk_back(a, buoys, out, out_buoys, &mut count);
+    let n = arcstring_c::walk::arcstring_walk_back(a, buoys, out, out_buoys, &mut count);
     print_string(n, out, out_buoys, count);
 }
 
 fn restart(q: Request, a: &[f64], buoys: &[u32], out: &mut [f64], out_buoys: &mut [u32]) {
     let mut count = NUMBER;
-    let n = arcstring_c::arcstring_restart(
+    let n = arcstring_c::walk::arcstring_restart(
         a,
         buoys,
         q.first_flag,
@@ -60,7 +60,7 @@ fn restart(q: Request, a: &[f64], buoys: &[u32], out: &mut [f64], out_buoys: &mu
 
 fn simplify(q: Request, a: &[f64], buoys: &[u32], out: &mut [f64], out_buoys: &mut [u32]) {
     let mut count = NUMBER;
-    let n = arcstring_c::edit::arcstring_simplify(
+    let n = arcstring_c::simplify::arcstring_simplify(
         a,
         buoys,
         q.first_flag,
@@ -81,7 +81,7 @@ fn insert_vertices(
     out_buoys: &mut [u32],
 ) {
     let mut count = NUMBER;
-    let n = arcstring_c::edit::arcstring_insert_vertices(
+    let n = arcstring_c::insert::arcstring_insert_vertices(
         a,
         a_buoys,
         q.first_flag,
@@ -144,7 +144,7 @@ fn split_into(
     counts: &mut [usize],
 ) {
     let mut pieces = NUMBER;
-    let n = arcstring_c::edit::arcstring_split(
+    let n = arcstring_c::split::arcstring_split(
         a,
         a_buoys,
         q.first_flag,

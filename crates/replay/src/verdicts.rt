@@ -1,6 +1,6 @@
 // The calls that answer yes or no. What is printed: the number returned, and the place of the verdict.
-use crate::calls::BYTE;
-use crate::calls::at;
+use crate::lent::BYTE;
+use crate::lent::at;
 use crate::print;
 use crate::read::Request;
 
@@ -11,7 +11,7 @@ fn print_verdict(n: u32, yes: u8) {
 
 fn xyz_eq(a: &[f64]) {
     let mut yes = BYTE;
-    let n = arcstring_c::arcstring_xyz_eq(
+    let n = arcstring_c::point::arcstring_xyz_eq(
         at(a, 0),
         at(a, 1),
         at(a, 2),
@@ -25,7 +25,7 @@ fn xyz_eq(a: &[f64]) {
 
 fn xyzs_coplanar(a: &[f64]) {
     let mut yes = BYTE;
-    let n = arcstring_c::arcstring_xyzs_coplanar(
+    let n = arcstring_c::point::arcstring_xyzs_coplanar(
         at(a, 0),
         at(a, 1),
         at(a, 2),
@@ -42,13 +42,13 @@ fn xyzs_coplanar(a: &[f64]) {
 
 fn crosses_self(q: Request, a: &[f64]) {
     let mut yes = BYTE;
-    let n = arcstring_c::arcstring_crosses_self(a, q.first_flag, &mut yes);
+    let n = arcstring_c::listing::arcstring_crosses_self(a, q.first_flag, &mut yes);
     print_verdict(n, yes);
 }
 
 fn same_side(q: Request, a: &[f64], b: &[f64]) {
     let mut yes = BYTE;
-    let n = arcstring_c::arcstring_same_side(
+    let n = arcstring_c::listing::arcstring_same_side(
         at(a, 0),
         at(a, 1),
         at(a, 2),
@@ -64,7 +64,7 @@ fn same_side(q: Request, a: &[f64], b: &[f64]) {
 
 fn along(q: Request, a: &[f64], b: &[f64], b_near: &[f64]) {
     let mut yes = BYTE;
-    let n = arcstring_c::near::arcstring_along(
+    let n = arcstring_c::along::arcstring_along(
         at(a, 0),
         at(a, 1),
         at(a, 2),
@@ -90,7 +90,7 @@ pub(crate) fn on_string(q: Request, a: &[f64], b: &[f64], b_near: &[f64]) {
 
 fn eq(q: Request, a: &[f64], a_near: &[f64], b: &[f64], b_near: &[f64]) {
     let mut yes = BYTE;
-    let n = arcstring_c::near::arcstring_eq(
+    let n = arcstring_c::relation::arcstring_eq(
         a,
         a_near,
         q.first_flag,
@@ -104,7 +104,7 @@ fn eq(q: Request, a: &[f64], a_near: &[f64], b: &[f64], b_near: &[f64]) {
 
 fn equals(q: Request, a: &[f64], a_near: &[f64], b: &[f64], b_near: &[f64]) {
     let mut yes = BYTE;
-    let n = arcstring_c::edit::arcstring_equals(
+    let n = arcstring_c::simplified::arcstring_equals(
         a,
         a_near,
         q.first_flag,
@@ -118,7 +118,7 @@ fn equals(q: Request, a: &[f64], a_near: &[f64], b: &[f64], b_near: &[f64]) {
 
 fn crosses(q: Request, a: &[f64], a_near: &[f64], b: &[f64], b_near: &[f64]) {
     let mut yes = BYTE;
-    let n = arcstring_c::near::arcstring_crosses(
+    let n = arcstring_c::relation::arcstring_crosses(
         a,
         a_near,
         q.first_flag,
@@ -132,7 +132,7 @@ fn crosses(q: Request, a: &[f64], a_near: &[f64], b: &[f64], b_near: &[f64]) {
 
 fn overlaps(q: Request, a: &[f64], a_near: &[f64], b: &[f64], b_near: &[f64]) {
     let mut yes = BYTE;
-    let n = arcstring_c::edit::arcstring_overlaps(
+    let n = arcstring_c::simplified::arcstring_overlaps(
         a,
         a_near,
         q.first_flag,
@@ -146,13 +146,13 @@ fn overlaps(q: Request, a: &[f64], a_near: &[f64], b: &[f64], b_near: &[f64]) {
 
 fn within(q: Request, a: &[f64], b: &[f64], b_near: &[f64]) {
     let mut yes = BYTE;
-    let n = arcstring_c::near::arcstring_within(a, b, b_near, q.second_flag, &mut yes);
+    let n = arcstring_c::relation::arcstring_within(a, b, b_near, q.second_flag, &mut yes);
     print_verdict(n, yes);
 }
 
 fn contains(q: Request, a: &[f64], a_near: &[f64], b: &[f64]) {
     let mut yes = BYTE;
-    let n = arcstring_c::near::arcstring_contains(a, a_near, q.first_flag, b, &mut yes);
+    let n = arcstring_c::relation::arcstring_contains(a, a_near, q.first_flag, b, &mut yes);
     print_verdict(n, yes);
 }
 

@@ -1,9 +1,9 @@
 // A point, the calls that write floats and no string, and a run of vertices. What is printed: the number returned, the floats lent, and
 // then the numbers.
-use crate::calls::FLOAT;
-use crate::calls::NUMBER;
-use crate::calls::at;
-use crate::calls::six;
+use crate::lent::FLOAT;
+use crate::lent::NUMBER;
+use crate::lent::at;
+use crate::lent::six;
 use crate::print;
 use crate::read::Request;
 
@@ -15,7 +15,7 @@ fn print_written(n: u32, out: &[f64], count: usize) {
 
 pub(crate) fn point(a: &[f64]) {
     let mut out = [FLOAT; 3];
-    let n = arcstring_c::arcstring_point(at(a, 0), at(a, 1), at(a, 2), &mut out);
+    let n = arcstring_c::point::arcstring_point(at(a, 0), at(a, 1), at(a, 2), &mut out);
     print::print_returned(n);
     print::print_point(&out);
 }
@@ -24,7 +24,7 @@ pub(crate) fn point(a: &[f64]) {
 pub(crate) fn run(q: Request, a: &[f64]) {
     let mut start = NUMBER;
     let mut len = NUMBER;
-    arcstring_c::arcstring_run(a, q.first, q.second, &mut start, &mut len);
+    arcstring_c::walk::arcstring_run(a, q.first, q.second, &mut start, &mut len);
     print::print_returned(0);
     print::print_number(start);
     print::print_number(len);
@@ -45,7 +45,7 @@ fn midpoints(q: Request, a: &[f64], out: &mut [f64]) {
 fn split_leg(a: &[f64], b: &[f64], out: &mut [f64]) {
     let leg = six(a);
     let mut pieces = NUMBER;
-    let n = arcstring_c::edit::arcstring_split_leg(&leg, b, out, &mut pieces);
+    let n = arcstring_c::split_leg::arcstring_split_leg(&leg, b, out, &mut pieces);
     print_written(n, out, pieces);
 }
 

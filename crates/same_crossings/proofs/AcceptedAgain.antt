@@ -1,17 +1,15 @@
 -- A stored string's vertices in another order are accepted again. Assumes nothing.
 use mathlib.Core.Path.{_≡_, refl, sym, ap, ap₂, _∙_}
-use mathlib.Core.Bool.{Bool, true, false, not, _&&_, and-assoc}
-use mathlib.Core.List.{List, [], _∷_, List·Permᴰ, List·Permᴰ·nil, List·Permᴰ·cons, List·Permᴰ·swap, List·Permᴰ·trans}
-use Prim.Native.Nat.{ℕ, suc, _/_, _%_}
+use mathlib.Core.Bool.{Bool, _&&_, and-assoc}
+use mathlib.Core.List.{List, _∷_, List·Permᴰ, List·Permᴰ·nil, List·Permᴰ·cons, List·Permᴰ·swap, List·Permᴰ·trans}
+use Prim.Native.Nat.{ℕ, suc, _/_}
 use lib.ListN.{length}
-use lib.Dec.{ltb, eqb}
 use lib.Ieee.{Float}
 use Rattle.sphericalpoint.specs.declared.SphericalPoint.{SphericalPoint}
-use Rattle.arcstring.specs.Answer.{numberIf, firstOf}
 use Rattle.arcstring.specs.Points.{points, flat}
-use Rattle.arcstring.specs.Check.{inRange, allInRange, listCheck, storedCheck}
+use Rattle.arcstring_check.specs.Check.{inRange, allInRange, storedCheck}
 use Rattle.arcstring.proofs.Flat.{flat-points}
-use Rattle.arcstring.proofs.Checks.{stored-whole}
+use Rattle.arcstring_check.proofs.Checks.{stored-whole, stored-by-parts}
 use Rattle.same_crossings.proofs.TurnedLegs.{and-turn}
 
 flat-of-points : (v : List Float) → storedCheck v ≡ 0 → flat (points v) ≡ v
@@ -33,7 +31,8 @@ flat-range-two p q ps = flat-range p (q ∷ ps) ∙ ap (λ (c : Bool). pointIn p
 
 pub range-order : {ps qs : List SphericalPoint} → List·Permᴰ ps qs → allInRange (flat ps) ≡ allInRange (flat qs)
 range-order List·Permᴰ·nil = refl
-range-order (List·Permᴰ·cons {a} {b} {l₁} {l₂} e d) = flat-range a l₁ ∙ ap₂ (λ (p : SphericalPoint) (c : Bool). pointIn p && c) e (range-order d) ∙ sym (flat-range b l₂)
+range-order (List·Permᴰ·cons {a} {b} {l₁} {l₂} e d) = flat-range a l₁ ∙ ap₂ (λ (p : SphericalPoint) (c : Bool). pointIn p && c) e (range-order d)
+    ∙ sym (flat-range b l₂)
 range-order (List·Permᴰ·swap {a} {b} {l = l} e₁ e₂) =
     rw (← e₁, ← e₂) (flat-range-two a b l ∙ and-turn (pointIn a) (pointIn b) (allInRange (flat l)) ∙ sym (flat-range-two b a l))
 range-order (List·Permᴰ·trans d₁ d₂) = range-order d₁ ∙ range-order d₂
@@ -44,10 +43,5 @@ length-order (List·Permᴰ·cons e d) = ap (λ (n : ℕ). suc (suc (suc n))) (l
 length-order (List·Permᴰ·swap e₁ e₂) = refl
 length-order (List·Permᴰ·trans d₁ d₂) = length-order d₁ ∙ length-order d₂
 
-check-of : (v w : List Float) → length v ≡ length w → allInRange v ≡ allInRange w → storedCheck v ≡ storedCheck w
-unfolding storedCheck listCheck
-check-of v w p q =
-    λ i. firstOf (numberIf (not (eqb (p i % 3) 0)) 1) (firstOf (numberIf (eqb (p i) 0) 1) (firstOf (numberIf (ltb 1024 (p i / 3)) 3) (numberIf (not (q i)) 4)))
-
 pub accepted-again : (ps : List SphericalPoint) (v : List Float) → List·Permᴰ ps (points v) → storedCheck v ≡ 0 → storedCheck (flat ps) ≡ 0
-accepted-again ps v d h = check-of (flat ps) (flat (points v)) (length-order d) (range-order d) ∙ ap storedCheck (flat-of-points v h) ∙ h
+accepted-again ps v d h = stored-by-parts (flat ps) (flat (points v)) (length-order d) (range-order d) ∙ ap storedCheck (flat-of-points v h) ∙ h

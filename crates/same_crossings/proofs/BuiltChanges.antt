@@ -10,14 +10,13 @@ use borrow.Author.Tests.{lt-ltb}
 use Rattle.sphericalpoint.specs.declared.SphericalPoint.{SphericalPoint}
 use Rattle.sphericalpoint.specs.Vector.{xyzEq}
 use Rattle.sphericalpoint.specs.Point.{normalizedUnlessShort}
-use Rattle.arcstring.specs.Answer.{pick}
+use Rattle.arcstring_check.specs.Answer.{pick}
 use Rattle.arcstring.specs.Points.{noPoint}
-use Rattle.arcstring.specs.Build.{normalizedAll, endsMeet, builtOf, builtVertices, builtString}
-use Rattle.arcstring.specs.Walk.{restarted}
+use Rattle.arcstring_build.specs.Build.{normalizedAll, endsMeet, builtOf, builtVertices, builtString}
+use Rattle.arcstring_walk.specs.Walk.{restarted}
 use Rattle.arcstring.proofs.Numbered.{map-reverse}
-use Rattle.arcstring_crossing.specs.Crossing.{Leg}
-use Rattle.arcstring_crossing.specs.Leg.{chain, legs}
-use Rattle.arcstring_listing.specs.Listing.{pairsBetween}
+use Rattle.arcstring.specs.Leg.{Leg, chain, legs}
+use Rattle.arcstring_tally.specs.Pairs.{pairsBetween}
 use Rattle.same_crossings.specs.Changes.{PointValue, pointValue}
 use Rattle.same_crossings.specs.BuiltChanges.{ClosesOnItself, BuildsInReverse, pairsOfStrings, BuiltReversed, StringsTrade}
 use Rattle.same_crossings.proofs.VectorValues.{eq-swap, point-same}

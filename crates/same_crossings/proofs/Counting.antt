@@ -12,23 +12,23 @@ use lib.Dec.{eqb}
 use lib.Ieee.{Float}
 use Rattle.sphericalpoint.specs.declared.SphericalPoint.{SphericalPoint}
 use Rattle.sphericalpoint.specs.Point.{normalizedUnlessShort}
-use Rattle.arcstring.specs.Answer.{answered, unlessRefused, pick}
+use Rattle.arcstring_check.specs.Answer.{answered, unlessRefused, pick}
 use Rattle.arcstring.specs.Points.{itself, points}
-use Rattle.arcstring.specs.Check.{storedCheck, roomCheck}
-use Rattle.arcstring.proofs.Answers.{pass, both-passed}
+use Rattle.arcstring_check.specs.Check.{storedCheck, roomCheck}
+use Rattle.arcstring_check.proofs.Answers.{pass, both-passed}
 use Rattle.arcstring.proofs.Flat.{count-points}
-use Rattle.arcstring_crossing.specs.declared.crossing.Pair.{Pair}
-use Rattle.arcstring_crossing.specs.declared.crossing.Pair.the-variants.{Clean, End, Grazing, Apart}
-use Rattle.arcstring_crossing.specs.declared.crossing.Outcome.the-variants.{Kept, Dropped, None}
-use Rattle.arcstring_crossing.specs.Crossing.{Leg, pairOf, legCheck}
-use Rattle.arcstring_crossing.specs.Leg.{legs, legCount}
-use Rattle.arcstring_crossing.proofs.Legs.{length-legs, length-open-legs}
-use Rattle.arcstring_listing.specs.declared.listing.Counts.{Counts}
-use Rattle.arcstring_listing.specs.Listing.{pairsBetween, pairsWithin, oneClean, total, countsOf, Mark, keptMarks, cleanPoints}
-use Rattle.arcstring_listing.specs.Listing.{Listing, listingOf, normalizedListing, inRoom, visited, counted, crossings, legPairs, legCrossings}
-use Rattle.arcstring_listing.specs.Listing.{selfPairs, selfCrossings}
-use Rattle.arcstring_listing.proofs.Rows.{length-between, length-self}
-use Rattle.arcstring_listing.proofs.Tallies.{all-classes}
+use Rattle.arcstring_pair.specs.declared.pair.Pair.{Pair}
+use Rattle.arcstring_pair.specs.declared.pair.Pair.the-variants.{Clean, End, Grazing, Apart}
+use Rattle.arcstring_pair.specs.declared.pair.Outcome.the-variants.{Kept, Dropped, None}
+use Rattle.arcstring.specs.Leg.{Leg, legCheck, legs, legCount}
+use Rattle.arcstring_pair.specs.Pair.{pairOf}
+use Rattle.arcstring.proofs.Legs.{length-legs, length-open-legs}
+use Rattle.arcstring_tally.specs.declared.counts.Counts.{Counts}
+use Rattle.arcstring_tally.specs.Pairs.{pairsBetween, pairsWithin, oneClean, total, countsOf, Mark, keptMarks, cleanPoints}
+use Rattle.arcstring_listing.specs.Listing.{Listing, listingOf, normalizedListing, inRoom, visited, counted, crossings, legPairs, legCrossings, selfPairs}
+use Rattle.arcstring_listing.specs.Listing.{selfCrossings}
+use Rattle.arcstring_visit.proofs.Rows.{length-between, length-self}
+use Rattle.arcstring_tally.proofs.Tallies.{all-classes}
 use Rattle.same_crossings.specs.CountLaws.{sumOfCounts, legsIn, CountsAddUp, ListingAgrees, ListingAddsUp, LegListingAddsUp, SelfListingAddsUp}
 use Rattle.same_crossings.specs.CountLaws.{pointOfClean, ListedOf, ListingOfPairs, LegListingOfPairs, SelfListingOfPairs}
 

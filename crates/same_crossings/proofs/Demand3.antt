@@ -6,23 +6,21 @@ use mathlib.Core.List.{List, [], _∷_, reverse, List·Permᴰ, List·Permᴰ·t
 use Prim.Native.Nat.{ℕ, zero, suc}
 use lib.ListN.{length}
 use Rattle.sphericalpoint.specs.declared.SphericalPoint.{SphericalPoint}
-use Rattle.arcstring.specs.Answer.{answered, unlessRefused}
-use Rattle.arcstring.specs.declared.vertex.Vertex.{Vertex}
+use Rattle.arcstring_check.specs.Answer.{answered, unlessRefused}
+use Rattle.arcstring.specs.declared.inner.vertex.Vertex.{Vertex}
 use Rattle.arcstring.specs.Points.{numbered, placesOf, points}
-use Rattle.arcstring.specs.Check.{storedCheck, stringCheck, roomsCheck, intoRooms, lent}
-use Rattle.arcstring.specs.Walk.{restarted, walkBack, restart}
-use Rattle.arcstring.proofs.Answers.{pass}
+use Rattle.arcstring_check.specs.Check.{storedCheck, stringCheck, roomsCheck, intoRooms, lent}
+use Rattle.arcstring_walk.specs.Walk.{restarted, walkBack, restart}
+use Rattle.arcstring_check.proofs.Answers.{pass}
 use Rattle.arcstring.proofs.Flat.{points-flat}
-use Rattle.arcstring.proofs.WithoutBuoys.{back-places, restart-places}
-use Rattle.arcstring_crossing.specs.declared.crossing.Pair.{Pair}
-use Rattle.arcstring_crossing.specs.Crossing.{Leg}
-use Rattle.arcstring_crossing.specs.Leg.{legs}
-use Rattle.arcstring_listing.specs.Listing.{pairsBetween, pairsWithin, countsOf, keptMarks, cleanPoints, Listing, listingOf, normalizedListing}
-use Rattle.arcstring_listing.specs.Listing.{visited, counted, selfPairs}
-use Rattle.same_crossings.specs.Changes.{Held, TwoStrings, Accepted, Which, theFirst, theSecond, Change, trade, backwards, restartAt}
-use Rattle.same_crossings.specs.Changes.{withVertices, replaced, walkedBack}
-use Rattle.same_crossings.specs.Changes.{restartedAt, changeOne, change, changes, SameCleanPoints, countsOfTwo, SameCrossings, Demand3}
-use Rattle.same_crossings.specs.Changes.{walksBack, SameSelfCrossings, Demand3Self}
+use Rattle.arcstring_walk.proofs.WalksWithout.{back-places, restart-places}
+use Rattle.arcstring_pair.specs.declared.pair.Pair.{Pair}
+use Rattle.arcstring.specs.Leg.{Leg, legs}
+use Rattle.arcstring_tally.specs.Pairs.{pairsBetween, pairsWithin, countsOf, keptMarks, cleanPoints}
+use Rattle.arcstring_listing.specs.Listing.{Listing, listingOf, normalizedListing, visited, counted, selfPairs}
+use Rattle.same_crossings.specs.Changes.{Held, TwoStrings, Accepted, Which, theFirst, theSecond, Change, trade, backwards, restartAt, withVertices}
+use Rattle.same_crossings.specs.Changes.{replaced, walkedBack, restartedAt, changeOne, change, changes, SameCleanPoints, countsOfTwo, SameCrossings}
+use Rattle.same_crossings.specs.Changes.{Demand3, walksBack, SameSelfCrossings, Demand3Self}
 use Rattle.same_crossings.proofs.LegLists.{open-backwards, legs-backwards, legs-restarted, restarted-order}
 use Rattle.same_crossings.proofs.AcceptedAgain.{accepted-again}
 use Rattle.same_crossings.proofs.SamePairs.{SamePairs, counts-same, clean-same, normalized-same, legs-in-order, legs-turned, strings-traded}

@@ -7,14 +7,14 @@ use lib.ListN.{length, take, drop, length-map}
 use lib.Seq.{take-append-le, take-all}
 use lib.Ieee.{Float}
 use native.Mathlib.Omega.{arith}
-use Rattle.arcstring.specs.Answer.{refused, answered}
+use Rattle.arcstring_check.specs.Answer.{refused, answered}
 use Rattle.arcstring.specs.Points.{placeOf, placesOf, buoysOf, flat}
-use Rattle.arcstring.specs.Walk.{walkBack, restart}
+use Rattle.arcstring_walk.specs.Walk.{walkBack, restart}
 use Rattle.arcstring.proofs.Flat.{length-flat}
-use Rattle.same_crossings.specs.Changes.{Held, TwoStrings, Which, theFirst, theSecond, Change, trade, backwards, restartAt, walkedBack}
-use Rattle.same_crossings.specs.Changes.{restartedAt, changeOne, change, changes}
-use Rattle.same_crossings.specs.InBuffers.{Lending, swap, backwardsIn, restartIn, backThrough, restartThrough, lend, lendings, ReadBack}
-use Rattle.same_crossings.specs.InBuffers.{Demand3InBuffers, DisplaysAgree}
+use Rattle.same_crossings.specs.Changes.{Held, TwoStrings, Which, theFirst, theSecond, Change, trade, backwards, restartAt, walkedBack, restartedAt}
+use Rattle.same_crossings.specs.Changes.{changeOne, change, changes}
+use Rattle.same_crossings.specs.InBuffers.{Lending, swap, backwardsIn, restartIn, backThrough, restartThrough, lend, lendings, ReadBack, Demand3InBuffers}
+use Rattle.same_crossings.specs.InBuffers.{DisplaysAgree}
 use Rattle.same_crossings.proofs.Demand3.{demand-3}
 
 -- ---- what a call answered stands at the start of what it left

@@ -1,16 +1,17 @@
--- The legs of a string that is walked backwards are its legs turned round, those of an open one in reverse; the legs of a closed string that is begun at another
+-- The legs of a string that is walked backwards are its legs turned round, those of an open one in reverse; the legs of a closed string that is begun at
+-- another
 -- vertex are its legs in another order. Assumes nothing.
 use mathlib.Core.Path.{_≡_, refl, sym, ap, _∙_}
 use mathlib.Core.Bool.{Bool, true, false, _&&_}
-use mathlib.Core.List.{List, [], _∷_, _++_, map, reverse, reverse-cons, reverse-append, append-assoc, append-nil, List·Permᴰ, List·Permᴰ·nil, List·Permᴰ·trans, Permᴰ·refl, Permᴰ·reverse, List·Permᴰ·append-comm}
+use mathlib.Core.List.{List, [], _∷_, _++_, map, reverse, reverse-cons, reverse-append, append-assoc, append-nil, List·Permᴰ, List·Permᴰ·nil, List·Permᴰ·trans}
+use mathlib.Core.List.{Permᴰ·refl, Permᴰ·reverse, List·Permᴰ·append-comm}
 use Prim.Native.Nat.{ℕ}
 use lib.ListN.{length, take, drop, take-append-drop}
 use lib.Dec.{ltb}
 use Rattle.sphericalpoint.specs.declared.SphericalPoint.{SphericalPoint}
-use Rattle.arcstring.specs.Answer.{pick}
-use Rattle.arcstring.specs.Walk.{restarted}
-use Rattle.arcstring_crossing.specs.Crossing.{Leg, leg}
-use Rattle.arcstring_crossing.specs.Leg.{chain, legs}
+use Rattle.arcstring_check.specs.Answer.{pick}
+use Rattle.arcstring_walk.specs.Walk.{restarted}
+use Rattle.arcstring.specs.Leg.{Leg, leg, chain, legs}
 use Rattle.same_crossings.proofs.TurnedLegs.{turned}
 use Rattle.same_crossings.proofs.PairOrders.{same-order}
 
@@ -57,10 +58,12 @@ unfolding legs
 closed-backwards [] = List·Permᴰ·nil
 closed-backwards (u ∷ vs) =
     let round = u ∷ (vs ++ (u ∷ [])) in
-    let there : reverse round ≡ u ∷ (reverse vs ++ (u ∷ [])) = reverse-cons u (vs ++ (u ∷ [])) ∙ ap (λ (l : List SphericalPoint). l ++ (u ∷ [])) (reverse-append vs (u ∷ [])) in
+    let there : reverse round ≡ u ∷ (reverse vs ++ (u ∷ [])) = reverse-cons u (vs ++ (u ∷ [])) ∙ ap (λ (l : List SphericalPoint). l ++ (u ∷ []))
+    (reverse-append vs (u ∷ [])) in
     List·Permᴰ·trans (same-order (ap (λ (l : List SphericalPoint). legs l true) (reverse-cons u vs)))
     (List·Permᴰ·trans (closed-elsewhere (u ∷ []) (reverse vs))
-    (List·Permᴰ·trans (same-order (ap (λ (l : List SphericalPoint). legs l false) (sym there) ∙ open-backwards round)) (Permᴰ·reverse (map turned (legs round false)))))
+    (List·Permᴰ·trans (same-order (ap (λ (l : List SphericalPoint). legs l false) (sym there) ∙ open-backwards round))
+    (Permᴰ·reverse (map turned (legs round false)))))
 
 -- ---- as the calls have them
 

@@ -11,7 +11,7 @@ use Rattle.ieee754.specs.Value.{Value, vnan, vzero, value, isZero, Alike}
 use Rattle.ieee754.proofs.Rounding.{round-zero}
 use Rattle.ieee754.proofs.ByValue.{alike-value, value-alike, zero-times}
 use Rattle.sphericalpoint.specs.declared.SphericalPoint.{SphericalPoint}
-use Rattle.sphericalpoint.specs.Sqrt.{sqrtOf}
+use Rattle.square_root.specs.Sqrt.{sqrtOf}
 use Rattle.sphericalpoint.specs.Vector.{equalityTolerance, xyzDiv, xyzLength, normalized}
 use Rattle.sphericalpoint.specs.Point.{pickPoint, normalizedUnlessShort}
 use Rattle.same_crossings.proofs.VectorValues.{Like, like, like-value, like-same, like-refl, like-lt, Same, same-mul, same-sum}
@@ -50,7 +50,8 @@ zero-over (fin s zero e) (fin r n d) t = go (eqb n 0)
   where
     go : (b : Bool) → value (cond b nan (round binary64 (unlike s r) (0 * up e * down d) (n * up d * down e))) ≡ cond b vnan vzero
     go true = refl
-    go false = ap (λ (k : ℕ). value (round binary64 (unlike s r) k (n * up d * down e))) (zero-times (up e) (down d)) ∙ round-zero binary64 (unlike s r) (n * up d * down e)
+    go false = ap (λ (k : ℕ). value (round binary64 (unlike s r) k (n * up d * down e))) (zero-times (up e) (down d))
+        ∙ round-zero binary64 (unlike s r) (n * up d * down e)
 
 pub like-div : {x y : Float} (d : Float) → Like x y → Like (div binary64 x d) (div binary64 y d)
 like-div {x} {y} d (like p) = go (value-alike x y p)

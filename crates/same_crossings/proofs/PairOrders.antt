@@ -1,11 +1,13 @@
--- What a function gives at all pairs of two lists, and at the pairs of one list that are not neighbours: the same results, each as often, where a list is put in
+-- What a function gives at all pairs of two lists, and at the pairs of one list that are not neighbours: the same results, each as often, where a list is put
+-- in
 -- another order, where its elements are turned, and where the lists trade places. A sum does not see the order. Assumes nothing.
 use mathlib.Core.Path.{_≡_, refl, sym, ap, ap₂, _∙_}
-use mathlib.Core.List.{List, [], _∷_, _++_, map, reverse, reverse-cons, append-assoc, List·Permᴰ, List·Permᴰ·nil, List·Permᴰ·cons, List·Permᴰ·swap, List·Permᴰ·trans, Permᴰ·refl, Permᴰ·symm, Permᴰ·middle, Permᴰ·append-left, Permᴰ·append-right, Permᴰ·map, Permᴰ·reverse}
+use mathlib.Core.List.{List, [], _∷_, _++_, map, reverse, reverse-cons, append-assoc, List·Permᴰ, List·Permᴰ·nil, List·Permᴰ·cons, List·Permᴰ·swap}
+use mathlib.Core.List.{List·Permᴰ·trans, Permᴰ·refl, Permᴰ·symm, Permᴰ·middle, Permᴰ·append-left, Permᴰ·append-right, Permᴰ·map, Permᴰ·reverse}
 use Prim.Native.Nat.{ℕ, _+_}
 use native.Mathlib.Nat.{add-left-comm}
 use lib.ListN.{drop}
-use Rattle.arcstring_listing.specs.Listing.{total}
+use Rattle.arcstring_tally.specs.Pairs.{total}
 
 -- ---- permutations
 
@@ -108,7 +110,8 @@ module _ {X Z : Type 0} (g : X → X → Z) where
       let m = map (λ (y : X). g y a) xs in
       let n = spaced g (xs ++ (b ∷ [])) in
       List·Permᴰ·trans
-      (same-order (ap (λ (r : List Z). r ++ spaced g (xs ++ (b ∷ []) ++ (a ∷ []))) (ap (map (g x)) (drop-last b a xs) ∙ map-snoc (g x) (drop 1 (xs ++ (b ∷ []))) a)
+      (same-order (ap (λ (r : List Z). r ++ spaced g (xs ++ (b ∷ []) ++ (a ∷ [])))
+      (ap (map (g x)) (drop-last b a xs) ∙ map-snoc (g x) (drop 1 (xs ++ (b ∷ []))) a)
       ∙ append-assoc l (g x a ∷ []) (spaced g (xs ++ (b ∷ []) ++ (a ∷ [])))))
       (List·Permᴰ·trans (Permᴰ·middle (g x a) l (spaced g (xs ++ (b ∷ []) ++ (a ∷ []))))
       (List·Permᴰ·cons refl (List·Permᴰ·trans (Permᴰ·append-left l (spaced-last xs b a)) (blocks-swap l m n))))

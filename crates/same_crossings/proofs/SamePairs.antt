@@ -10,20 +10,21 @@ use Rattle.ieee754.proofs.ByValue.{value-float}
 use Rattle.sphericalpoint.specs.declared.SphericalPoint.{SphericalPoint}
 use Rattle.sphericalpoint.specs.Point.{normalizedUnlessShort}
 use Rattle.arcstring.specs.Points.{point, noPoint}
-use Rattle.arcstring_crossing.specs.declared.crossing.Pair.{Pair}
-use Rattle.arcstring_crossing.specs.declared.crossing.Pair.the-variants.{Clean, End, Grazing, Apart}
-use Rattle.arcstring_crossing.specs.declared.crossing.Outcome.{Outcome}
-use Rattle.arcstring_crossing.specs.declared.crossing.Outcome.the-variants.{None}
-use Rattle.arcstring_crossing.specs.Crossing.{Leg, pairOf}
-use Rattle.arcstring_listing.specs.Listing.{pairsBetween, pairsWithin, oneClean, oneEnd, oneGrazing, oneApart, total, countsOf, keptMarks, cleanPoints}
+use Rattle.arcstring_pair.specs.declared.pair.Pair.{Pair}
+use Rattle.arcstring_pair.specs.declared.pair.Pair.the-variants.{Clean, End, Grazing, Apart}
+use Rattle.arcstring_pair.specs.declared.pair.Outcome.{Outcome}
+use Rattle.arcstring_pair.specs.declared.pair.Outcome.the-variants.{None}
+use Rattle.arcstring.specs.Leg.{Leg}
+use Rattle.arcstring_pair.specs.Pair.{pairOf}
+use Rattle.arcstring_tally.specs.Pairs.{pairsBetween, pairsWithin, oneClean, oneEnd, oneGrazing, oneApart, total, countsOf, keptMarks, cleanPoints}
 use Rattle.same_crossings.specs.CountLaws.{pointOfClean}
 use Rattle.same_crossings.specs.Changes.{PointValue, pointValue}
 use Rattle.same_crossings.proofs.VectorValues.{like, Same, same-point}
 use Rattle.same_crossings.proofs.NormalValues.{same-normalized}
-use Rattle.same_crossings.proofs.TurnedLegs.{turned, PairValue, cleanAt, endClass, grazingClass, apartClass, pairValue, first-turned}
-use Rattle.same_crossings.proofs.TurnedLegs.{second-turned, legs-traded, first-alike}
-use Rattle.same_crossings.proofs.PairOrders.{same-order, map-same, total-order, grid, grid-order, grid-turned, grid-traded, spaced}
-use Rattle.same_crossings.proofs.PairOrders.{spaced-turned, spaced-reversed}
+use Rattle.same_crossings.proofs.TurnedLegs.{turned, PairValue, cleanAt, endClass, grazingClass, apartClass, pairValue, first-turned, second-turned}
+use Rattle.same_crossings.proofs.TurnedLegs.{legs-traded, first-alike}
+use Rattle.same_crossings.proofs.PairOrders.{same-order, map-same, total-order, grid, grid-order, grid-turned, grid-traded, spaced, spaced-turned}
+use Rattle.same_crossings.proofs.PairOrders.{spaced-reversed}
 use Rattle.same_crossings.proofs.Counting.{clean-points-are-clean-pairs}
 
 -- a point, and a pair, that has the value
@@ -42,7 +43,8 @@ SamePairs ps qs = List·Permᴰ (map pairValue ps) (map pairValue qs)
 -- ---- the counts
 
 -- a number that sees nothing but the class of a pair
-module _ (f : Pair → ℕ) (c : (p q : SphericalPoint) → f (Clean p) ≡ f (Clean q)) (e : (p q : SphericalPoint) → f (End p) ≡ f (End q)) (g : (o r : Outcome) → f (Grazing o) ≡ f (Grazing r)) where
+module _ (f : Pair → ℕ) (c : (p q : SphericalPoint) → f (Clean p) ≡ f (Clean q)) (e : (p q : SphericalPoint) → f (End p) ≡ f (End q))
+    (g : (o r : Outcome) → f (Grazing o) ≡ f (Grazing r)) where
   number-of : (p : Pair) → f (pairWith (pairValue p)) ≡ f p
   number-of (Clean p) = c (pointOf (pointValue p)) p
   number-of (End p) = e noPoint p
@@ -94,7 +96,12 @@ normalValue v = pointValue (normalizedUnlessShort (pointOf v))
 
 normal-value : (p : SphericalPoint) → pointValue (normalizedUnlessShort p) ≡ normalValue (pointValue p)
 normal-value p =
-    same-point (same-normalized (record { x = like (sym (value-float (pointValue p .x))); y = like (sym (value-float (pointValue p .y))); z = like (sym (value-float (pointValue p .z))) }))
+    same-point (same-normalized (record {
+      x = like (sym (value-float (pointValue p .x)));
+      y = like (sym (value-float (pointValue p .y)));
+      z = like
+          (sym (value-float (pointValue p .z)));
+    }))
 
 normal-values : (ps : List SphericalPoint) → map pointValue (map normalizedUnlessShort ps) ≡ map normalValue (map pointValue ps)
 normal-values ps =

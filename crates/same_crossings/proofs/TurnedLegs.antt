@@ -9,15 +9,16 @@ use lib.Ieee.{Float, neg, lt}
 use Rattle.ieee754.proofs.Comparisons.{lt-value, eq-value, zero-neg, pos-neg, neg-pos, not-both-signs}
 use Rattle.sphericalpoint.specs.declared.SphericalPoint.{SphericalPoint}
 use Rattle.sphericalpoint.specs.Vector.{xyzCross, xyzNeg, xyzEq}
-use Rattle.arcstring.specs.Answer.{pick}
-use Rattle.arcstring_crossing.specs.declared.crossing.Pair.{Pair}
-use Rattle.arcstring_crossing.specs.declared.crossing.Pair.the-variants.{Clean, End, Grazing, Apart}
-use Rattle.arcstring_crossing.specs.declared.crossing.Outcome.{Outcome}
-use Rattle.arcstring_crossing.specs.Crossing.{Leg, leg, normal, meeting, sideFrom, sideTo, sideValues, zeroFloat, grazes, isAbove, isBelow, someSide}
-use Rattle.arcstring_crossing.specs.Crossing.{everySide, atEnd, grazingOutcome, endOrClean, classAt, pairOf}
+use Rattle.arcstring_check.specs.Answer.{pick}
+use Rattle.arcstring_pair.specs.declared.pair.Pair.{Pair}
+use Rattle.arcstring_pair.specs.declared.pair.Pair.the-variants.{Clean, End, Grazing, Apart}
+use Rattle.arcstring_pair.specs.declared.pair.Outcome.{Outcome}
+use Rattle.arcstring.specs.Leg.{Leg, leg}
+use Rattle.arcstring_pair.specs.Pair.{normal, meeting, sideFrom, sideTo, sideValues, zeroFloat, grazes, isAbove, isBelow, someSide, everySide, atEnd}
+use Rattle.arcstring_pair.specs.Pair.{grazingOutcome, endOrClean, classAt, pairOf}
 use Rattle.same_crossings.specs.Changes.{PointValue, pointValue}
-use Rattle.same_crossings.proofs.VectorValues.{Like, like, like-trans, Same, same-point, same-refl, same-trans, same-neg, same-dot, same-cross}
-use Rattle.same_crossings.proofs.VectorValues.{same-eq, neg-twice, cross-swap, cross-neg-left, cross-neg-right, dot-neg-right}
+use Rattle.same_crossings.proofs.VectorValues.{Like, like, like-trans, Same, same-point, same-refl, same-trans, same-neg, same-dot, same-cross, same-eq}
+use Rattle.same_crossings.proofs.VectorValues.{neg-twice, cross-swap, cross-neg-left, cross-neg-right, dot-neg-right}
 
 abbrev pub turned : Leg → Leg
 turned l = leg (l .to) (l .from)
@@ -37,7 +38,8 @@ pairValue Apart = apartClass
 abbrev byTests : Bool → Bool → Bool → PairValue → PairValue → PairValue
 byTests some above below x y = pick some grazingClass (pick above x (pick below y apartClass))
 
-byTests-value : (z p n : Bool) (o : Outcome) (x y : Pair) → pairValue (pick z (Grazing o) (pick p x (pick n y Apart))) ≡ byTests z p n (pairValue x) (pairValue y)
+byTests-value : (z p n : Bool) (o : Outcome) (x y : Pair) → pairValue (pick z (Grazing o) (pick p x (pick n y Apart))) ≡ byTests z p n (pairValue x)
+    (pairValue y)
 byTests-value true p n o x y = refl
 byTests-value false true n o x y = refl
 byTests-value false false true o x y = refl
@@ -131,18 +133,21 @@ module _ (a b a' b' : Leg) (ends : (p : SphericalPoint) → atEnd p a' b' ≡ at
       ∙ (λ i. pick ((ends p ∙ atEnd-value s) i) endClass (cleanAt (same-point s i)))
       ∙ sym (endOrClean-value q a b)
 
-  class-opposite : (t : SphericalPoint) {t' : SphericalPoint} (x : Float) (s : List Float) {s' l : List Float} → Same t' (xyzNeg t) → Opposite s' l → List·Permᴰ l (x ∷ s)
+  class-opposite : (t : SphericalPoint) {t' : SphericalPoint} (x : Float) (s : List Float) {s' l : List Float} → Same t' (xyzNeg t) → Opposite s' l
+      → List·Permᴰ l (x ∷ s)
       → pairValue (classAt t' a' b' s') ≡ pairValue (classAt t a b (x ∷ s))
   unfolding classAt
   class-opposite t {t'} x s {s'} {l} same o d =
-      byTests-value (someSide grazes s') (everySide isAbove s') (everySide isBelow s') (grazingOutcome t' a' b' s') (endOrClean t' a' b') (endOrClean (xyzNeg t') a' b')
+      byTests-value (someSide grazes s') (everySide isAbove s') (everySide isBelow s') (grazingOutcome t' a' b' s') (endOrClean t' a' b')
+      (endOrClean (xyzNeg t') a' b')
       ∙ (λ i. byTests
       ((some-opposite grazes grazes grazes-opposite o ∙ some-order grazes d) i)
       ((every-opposite isAbove isBelow above-opposite o ∙ every-order isBelow d) i)
       ((every-opposite isBelow isAbove below-opposite o ∙ every-order isAbove d) i)
       (endOrClean-same same i) (endOrClean-same (same-trans (same-neg same) (neg-twice t)) i))
       ∙ byTests-opposite (someSide grazes (x ∷ s)) (everySide isAbove (x ∷ s)) (everySide isBelow (x ∷ s)) _ _ (not-both x s)
-      ∙ sym (byTests-value (someSide grazes (x ∷ s)) (everySide isAbove (x ∷ s)) (everySide isBelow (x ∷ s)) (grazingOutcome t a b (x ∷ s)) (endOrClean t a b) (endOrClean (xyzNeg t) a b))
+      ∙ sym (byTests-value (someSide grazes (x ∷ s)) (everySide isAbove (x ∷ s)) (everySide isBelow (x ∷ s)) (grazingOutcome t a b (x ∷ s)) (endOrClean t a b)
+      (endOrClean (xyzNeg t) a b))
 
 -- ---- what turns sign with a leg
 

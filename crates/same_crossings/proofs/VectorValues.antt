@@ -129,7 +129,8 @@ minor a b c d = sub binary64 (mul binary64 a b) (mul binary64 c d)
 
 minor-swap : (a b c d : Float) → Like (minor a b c d) (neg (minor d c b a))
 minor-swap a b c d =
-    like (ap₂ (λ (m n : Float). value (sub binary64 m n)) (mul-comm binary64 a b) (mul-comm binary64 c d) ∙ sub-swap binary64 (mul binary64 b a) (mul binary64 d c))
+    like (ap₂ (λ (m n : Float). value (sub binary64 m n)) (mul-comm binary64 a b) (mul-comm binary64 c d)
+    ∙ sub-swap binary64 (mul binary64 b a) (mul binary64 d c))
 
 sub-of-negs : (m n : Float) {m' n' : Float} → m' ≡ neg m → n' ≡ neg n → Like (sub binary64 m' n') (neg (sub binary64 m n))
 sub-of-negs m n p q = like (ap₂ (λ (a b : Float). value (sub binary64 a b)) p q ∙ sym (neg-sub binary64 m n))
@@ -160,12 +161,22 @@ module _ (u v : SphericalPoint) where
   pub cross-neg-right : Same (xyzCross u (xyzNeg v)) (xyzNeg (xyzCross u v))
   unfolding xyzCross xyzNeg
   cross-neg-right =
-      record { x = minor-neg-right (u .y) (v .z) (u .z) (v .y); y = minor-neg-right (u .z) (v .x) (u .x) (v .z); z = minor-neg-right (u .x) (v .y) (u .y) (v .x) }
+      record {
+        x = minor-neg-right (u .y) (v .z) (u .z) (v .y);
+        y = minor-neg-right (u .z) (v .x) (u .x) (v .z);
+        z = minor-neg-right (u .x) (v .y) (u .y)
+            (v .x);
+      }
 
   products-neg : Same (xyzMul u (xyzNeg v)) (xyzNeg (xyzMul u v))
   unfolding xyzMul xyzNeg
   products-neg =
-      record { x = like-same (mul-neg-right binary64 (u .x) (v .x)); y = like-same (mul-neg-right binary64 (u .y) (v .y)); z = like-same (mul-neg-right binary64 (u .z) (v .z)) }
+      record {
+        x = like-same (mul-neg-right binary64 (u .x) (v .x));
+        y = like-same (mul-neg-right binary64 (u .y) (v .y));
+        z = like-same
+            (mul-neg-right binary64 (u .z) (v .z));
+      }
 
   pub dot-neg-right : Like (xyzDot u (xyzNeg v)) (neg (xyzDot u v))
   unfolding xyzDot

@@ -9,11 +9,11 @@ use lib.ListN.{length, getD}
 use Rattle.sphericalpoint.specs.declared.SphericalPoint.{SphericalPoint}
 use Rattle.sphericalpoint.specs.Point.{normalizedUnlessShort}
 use Rattle.arcstring.specs.Points.{ArcString, noPoint}
-use Rattle.arcstring.specs.Build.{builtString}
-use Rattle.arcstring.specs.Walk.{restarted}
-use Rattle.arcstring_crossing.specs.declared.crossing.Pair.{Pair}
-use Rattle.arcstring_crossing.specs.Leg.{legs}
-use Rattle.arcstring_listing.specs.Listing.{pairsBetween, countsOf}
+use Rattle.arcstring_build.specs.Build.{builtString}
+use Rattle.arcstring_walk.specs.Walk.{restarted}
+use Rattle.arcstring_pair.specs.declared.pair.Pair.{Pair}
+use Rattle.arcstring.specs.Leg.{legs}
+use Rattle.arcstring_tally.specs.Pairs.{pairsBetween, countsOf}
 use Rattle.same_crossings.specs.Changes.{pointValue}
 
 -- ---- when points in reverse build to the same string in reverse

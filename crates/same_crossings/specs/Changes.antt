@@ -8,14 +8,15 @@ use Prim.Native.Nat.{ℕ}
 use lib.Ieee.{Float}
 use Rattle.ieee754.specs.Value.{Value, value}
 use Rattle.sphericalpoint.specs.declared.SphericalPoint.{SphericalPoint}
-use Rattle.arcstring.specs.Answer.{Answer, refused, answered}
-use Rattle.arcstring.specs.declared.vertex.Vertex.{Vertex}
+use Rattle.arcstring_check.specs.Answer.{Answer, refused, answered}
+use Rattle.arcstring.specs.declared.inner.vertex.Vertex.{Vertex}
 use Rattle.arcstring.specs.Points.{placesOf, buoysOf, flat}
-use Rattle.arcstring.specs.Check.{storedCheck}
-use Rattle.arcstring.specs.Walk.{walkBack, restart}
-use Rattle.arcstring_crossing.specs.declared.crossing.Pair.{Pair}
-use Rattle.arcstring_listing.specs.declared.listing.Counts.{Counts}
-use Rattle.arcstring_listing.specs.Listing.{countsOf, cleanPoints, Listing, visited, counted, crossings, selfCrossings}
+use Rattle.arcstring_check.specs.Check.{storedCheck}
+use Rattle.arcstring_walk.specs.Walk.{walkBack, restart}
+use Rattle.arcstring_pair.specs.declared.pair.Pair.{Pair}
+use Rattle.arcstring_tally.specs.declared.counts.Counts.{Counts}
+use Rattle.arcstring_tally.specs.Pairs.{countsOf, cleanPoints}
+use Rattle.arcstring_listing.specs.Listing.{Listing, visited, counted, crossings, selfCrossings}
 use Rattle.same_crossings.specs.CountLaws.{CountsAddUp, ListingAgrees, ListingAddsUp, ListingOfPairs, SelfListingAddsUp, SelfListingOfPairs}
 
 -- ---- strings as they are handed in

@@ -9,14 +9,14 @@ use lib.ListN.{length}
 use lib.Ieee.{Float}
 use Rattle.sphericalpoint.specs.declared.SphericalPoint.{SphericalPoint}
 use Rattle.sphericalpoint.specs.Point.{normalizedUnlessShort}
-use Rattle.arcstring.specs.Answer.{answered}
+use Rattle.arcstring_check.specs.Answer.{answered}
 use Rattle.arcstring.specs.Points.{itself}
-use Rattle.arcstring_crossing.specs.declared.crossing.Pair.{Pair}
-use Rattle.arcstring_crossing.specs.declared.crossing.Pair.the-variants.{Clean, End, Grazing, Apart}
-use Rattle.arcstring_crossing.specs.Crossing.{Leg}
-use Rattle.arcstring_crossing.specs.Leg.{legCount}
-use Rattle.arcstring_listing.specs.declared.listing.Counts.{Counts}
-use Rattle.arcstring_listing.specs.Listing.{countsOf, cleanPoints, Listing, visited, counted, crossings, legPairs, legCrossings, selfPairs, selfCrossings}
+use Rattle.arcstring_pair.specs.declared.pair.Pair.{Pair}
+use Rattle.arcstring_pair.specs.declared.pair.Pair.the-variants.{Clean, End, Grazing, Apart}
+use Rattle.arcstring.specs.Leg.{Leg, legCount}
+use Rattle.arcstring_tally.specs.declared.counts.Counts.{Counts}
+use Rattle.arcstring_tally.specs.Pairs.{countsOf, cleanPoints}
+use Rattle.arcstring_listing.specs.Listing.{Listing, visited, counted, crossings, legPairs, legCrossings, selfPairs, selfCrossings}
 
 -- ---- how many pairs
 

@@ -5,9 +5,10 @@ use mathlib.Core.List.{List, [], _∷_}
 use Prim.Native.Nat.{ℕ, _*_}
 use lib.ListN.{length, take}
 use lib.Ieee.{Float}
-use Rattle.arcstring.specs.Answer.{Answer, refused, answered, leaves}
-use Rattle.arcstring.specs.declared.vertex.Vertex.{Vertex}
-use Rattle.arcstring.specs.Walk.{walkBack, restart, writtenResult, writtenFloats, withoutBuoys, writtenBuoys}
+use Rattle.arcstring_check.specs.Answer.{Answer, refused, answered, leaves}
+use Rattle.arcstring.specs.declared.inner.vertex.Vertex.{Vertex}
+use Rattle.arcstring_walk.specs.Walk.{walkBack, restart}
+use Rattle.arcstring.specs.Written.{writtenResult, writtenFloats, withoutBuoys, writtenBuoys}
 use Rattle.same_crossings.specs.Changes.{Held, TwoStrings, Accepted, Which, replaced, changeOne, change, trade, countsOfTwo, SameCrossings}
 
 -- ---- a caller with buffers

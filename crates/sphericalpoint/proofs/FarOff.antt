@@ -14,6 +14,7 @@ use lib.Ieee.Fits.{up-pos, down-pos, add-fits}
 use lib.Ieee.Order.{round-mono}
 use lib.Ieee.Positive.{positive, above, above-of-le, le→cross}
 use borrow.Author.Tests.{le-ltb}
+use Rattle.ieee754.proofs.Tests.{never, and-first, and-second}
 use Rattle.ieee754.specs.Size.{abs}
 use Rattle.ieee754.specs.Units.{notNegative}
 use Rattle.ieee754.specs.Value.{value}
@@ -21,10 +22,9 @@ use Rattle.ieee754.proofs.Units.{exact-units}
 use Rattle.ieee754.proofs.Comparisons.{lt-zero-l, le-value}
 use Rattle.sphericalpoint.specs.declared.SphericalPoint.{SphericalPoint}
 use Rattle.sphericalpoint.specs.Vector.{coplanarTolerance, xyzSum, xyzDot, xyzLength}
-use Rattle.sphericalpoint.specs.Sqrt.{sqrtOf}
-use Rattle.sphericalpoint.specs.NearestRoot.{inUnits, NearestRoot}
-use Rattle.sphericalpoint.proofs.sqrt.NearestLaw.{sqrt-nearest}
-use Rattle.sphericalpoint.proofs.Sizes as Sizes
+use Rattle.square_root.specs.Sqrt.{sqrtOf}
+use Rattle.square_root.specs.NearestRoot.{inUnits, NearestRoot}
+use Rattle.square_root.proofs.NearestLaw.{sqrt-nearest}
 
 -- ---- the numbers of the test
 
@@ -130,8 +130,8 @@ by-root : (y l : Float) → T (fits binary64 l) → T (notNegative l) → inUnit
 by-root y nan F p u h g = absurd p
 by-root y (inf s) F p u h g = absurd p
 by-root y (fin true n d) F p u h g = absurd p
-by-root y (fin false zero d) F p u h g = Sizes.no (sym g ∙ zero-below false d)
-by-root nan (fin false (suc n) d) F p u h g = unfold abs le in Sizes.no h
+by-root y (fin false zero d) F p u h g = never (sym g ∙ zero-below false d)
+by-root nan (fin false (suc n) d) F p u h g = unfold abs le in never h
 by-root (inf s) (fin false (suc n) d) F p u h g = unfold abs div in ap (lt (inf false)) tolerance-is ∙ unfold lt in refl
 by-root (fin s m e) (fin false (suc n) d) F p u h g =
     unfold abs in quotient-far m e n d (subst T (sym h) tt)
@@ -139,10 +139,10 @@ by-root (fin s m e) (fin false (suc n) d) F p u h g =
 
 far-off : (y s : Float) → T (fits binary64 s) → le far (abs y) ≡ true → le s sixteen ≡ true → lt (sqrtOf s) coplanarTolerance ≡ false
     → lt (div binary64 (abs y) (sqrtOf s)) coplanarTolerance ≡ false
-far-off y nan F h k g = unfold le in Sizes.no k
+far-off y nan F h k g = unfold le in never k
 far-off y (inf true) F h k g = unfold sqrtOf in by-nan (abs y)
-far-off y (inf false) F h k g = unfold le in Sizes.no k
-far-off y (fin s zero e) F h k g = unfold sqrtOf in Sizes.no (sym g ∙ zero-below s e)
+far-off y (inf false) F h k g = unfold le in never k
+far-off y (fin s zero e) F h k g = unfold sqrtOf in never (sym g ∙ zero-below s e)
 far-off y (fin true (suc m) e) F h k g = unfold sqrtOf in by-nan (abs y)
 far-off y (fin false (suc m) e) F h k g =
     let x = fin false (suc m) e in
@@ -155,15 +155,11 @@ far-off y (fin false (suc m) e) F h k g =
 
 -- ---- a point and a normal, by the tests as the code has them: m has the value of the size
 
-both : (a b : Bool) → a && b ≡ true → (a ≡ true) × (b ≡ true)
-both true b h = (refl, h)
-both false b h = Sizes.no h
-
 pub not-in-plane : (c n : SphericalPoint) (m : Float) → value m ≡ value (abs (xyzDot c n))
     → le (ofBits binary64 0x3e7a_d7f2_9abc_af48) m && le (xyzDot n n) (ofBits binary64 0x4030_0000_0000_0000) ≡ true
     → lt (xyzLength n) coplanarTolerance ≡ false → lt (div binary64 (abs (xyzDot c n)) (xyzLength n)) coplanarTolerance ≡ false
 unfolding xyzLength xyzDot xyzSum
 not-in-plane c n m e h g =
-    let tests = both _ _ h in
-    let large = le-value far far (abs (xyzDot c n)) m refl (sym e) ∙ ap (λ (t : Float). le t m) (sym far-bits) ∙ tests .0 in
-    far-off (xyzDot c n) (xyzDot n n) (add-fits binary64 _ _) large (ap (le (xyzDot n n)) (sym sixteen-bits) ∙ tests .1) g
+    let large = le-value far far (abs (xyzDot c n)) m refl (sym e) ∙ ap (λ (t : Float). le t m) (sym far-bits) ∙ and-first _ _ h in
+    far-off (xyzDot c n) (xyzDot n n) (add-fits binary64 _ _) large
+    (ap (le (xyzDot n n)) (sym sixteen-bits) ∙ and-second (le (ofBits binary64 0x3e7a_d7f2_9abc_af48) m) _ h) g

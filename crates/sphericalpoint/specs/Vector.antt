@@ -1,11 +1,11 @@
--- Vectors of three floats: the expressions of sphericalpoint.rs, operation by operation, each sum, difference, product and quotient rounded once. Definitions only.
-use mathlib.Core.Bool.{Bool}
+-- Vectors of three floats: the expressions of sphericalpoint.rs, operation by operation, each sum, difference, product and quotient rounded once. Definitions
+-- only.
+use mathlib.Core.Bool.{Bool, false}
 use lib.Ieee.{Float, binary64, add, sub, mul, div, neg, lt, round}
 use Prim.Native.Nat.{_^_}
-use mathlib.Core.Bool.{false}
 use Rattle.ieee754.specs.Size.{abs}
 use Rattle.sphericalpoint.specs.declared.SphericalPoint.{SphericalPoint}
-use Rattle.sphericalpoint.specs.Sqrt.{sqrtOf}
+use Rattle.square_root.specs.Sqrt.{sqrtOf}
 
 -- ---- the tolerances, each the float nearest to the decimal
 

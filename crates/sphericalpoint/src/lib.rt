@@ -6,11 +6,9 @@ ghost use mathlib.Core.Bool.{true, false, cond};
 ghost use lib.Ieee.{binary64, div, lt};
 ghost use Rattle.ieee754.specs.Size.{abs};
 ghost use Rattle.ieee754.specs.Value.{value};
-ghost use Rattle.sphericalpoint.specs.Vector.{coplanarTolerance};
-ghost use Rattle.sphericalpoint.specs.Vector.{xyzAdd, xyzSub, xyzMul, xyzDiv, xyzNeg, xyzAbs, xyzSum, xyzDot, xyzCross, xyzLength, xyzEq, normalized};
+ghost use Rattle.sphericalpoint.specs.Vector.{coplanarTolerance, xyzAdd, xyzSub, xyzMul, xyzDiv, xyzNeg, xyzAbs, xyzSum, xyzDot, xyzCross, xyzLength};
+ghost use Rattle.sphericalpoint.specs.Vector.{xyzEq, normalized};
 ghost use Rattle.sphericalpoint.specs.Point.{normalizedUnlessShort, pointFrom, betweenInPlane, betweenEnds, xyzsCoplanar};
-
-pub mod sqrt;
 
 #[repr(C)]
 pub struct SphericalPoint {
@@ -153,17 +151,17 @@ pub fn xyz_cross(a: SphericalPoint, b: SphericalPoint) -> SphericalPoint
 
 // The length of the vector with these coordinates. It takes three floats, which go to it in registers: it is too long to become part of
 // its callers, and with a point, which goes through memory, building and simplifying took twice the time (docs/DECISIONS.md).
-fn length_of(x: f64, y: f64, z: f64) -> f64
+fn root_of_squares(x: f64, y: f64, z: f64) -> f64
     ensures { λ r. ⌜ r ≡ xyzLength (record { x = x; y = y; z = z }) ⌝ }
 {
     let xyz = SphericalPoint { x, y, z };
-    sqrt::sqrt(xyz_sum(xyz_mul_xyz(xyz, xyz)))
+    square_root::sqrt(xyz_sum(xyz_mul_xyz(xyz, xyz)))
 }
 
 pub fn xyz_length(xyz: SphericalPoint) -> f64
     ensures { λ r. ⌜ r ≡ xyzLength xyz ⌝ }
 {
-    length_of(xyz.x, xyz.y, xyz.z)
+    root_of_squares(xyz.x, xyz.y, xyz.z)
 }
 
 // Divided by its length, whatever that is: a zero vector becomes NaNs.
@@ -177,7 +175,7 @@ pub fn normalize(xyz: SphericalPoint) -> SphericalPoint
 pub fn normalize_unless_short(xyz: SphericalPoint) -> SphericalPoint
     ensures { λ r. ⌜ r ≡ normalizedUnlessShort xyz ⌝ }
 {
-    let length = length_of(xyz.x, xyz.y, xyz.z);
+    let length = root_of_squares(xyz.x, xyz.y, xyz.z);
     if length < SphericalPoint::EQUALITY_TOLERANCE {
         xyz
     } else {
@@ -238,7 +236,7 @@ fn on_leg(a: SphericalPoint, b: SphericalPoint, c: SphericalPoint) -> bool
     if !between_ends(a, b, c) {
         return false;
     }
-    let normal_length = length_of(normal.x, normal.y, normal.z);
+    let normal_length = root_of_squares(normal.x, normal.y, normal.z);
     if normal_length < SphericalPoint::COPLANAR_TOLERANCE {
         return false;
     }

@@ -1,8 +1,7 @@
 // The vector layer exported for the comparison programs of compare/: its root beside the processor's, its points
 // beside the published Rust's. Makers link arcstring_c and not this: users reach the root through the strings alone.
 ghost use mathlib.Core.Path.{_≡_};
-ghost use mathlib.Core.Bool.{cond};
-ghost use Rattle.sphericalpoint.specs.Sqrt.{sqrtOf};
+ghost use Rattle.square_root.specs.Sqrt.{sqrtOf};
 ghost use Rattle.sphericalpoint.specs.Vector.{xyzEq};
 ghost use Rattle.sphericalpoint.specs.Point.{pointFrom, xyzsCoplanar};
 use sphericalpoint::SphericalPoint;
@@ -11,7 +10,7 @@ use sphericalpoint::SphericalPoint;
 pub extern "C" fn sphericalpoint_sqrt(x: f64) -> f64
     ensures { λ r. ⌜ r ≡ sqrtOf x ⌝ }
 {
-    sphericalpoint::sqrt::sqrt(x)
+    square_root::sqrt(x)
 }
 
 #[no_mangle]

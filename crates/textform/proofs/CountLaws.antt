@@ -7,22 +7,22 @@ use Prim.Native.Nat.{ℕ, _/_, _%_}
 use native.Mathlib.Omega.{arith}
 use lib.ListN.{length}
 use lib.Ieee.{Float}
-use Rattle.arcstring.specs.Answer.{answered, refused, unlessRefused, pick}
+use Rattle.arcstring_check.specs.Answer.{answered, refused, unlessRefused, pick}
 use Rattle.arcstring.specs.Points.{ArcString, points, flat}
-use Rattle.arcstring.specs.Check.{buildCheck}
-use Rattle.arcstring.specs.Build.{builtString}
-use Rattle.arcstring.proofs.Answers.{pass, both-passed}
+use Rattle.arcstring_check.specs.Check.{buildCheck}
+use Rattle.arcstring_build.specs.Build.{builtString}
+use Rattle.arcstring_check.proofs.Answers.{pass, both-passed}
 use Rattle.arcstring.proofs.Flat.{points-flat, flat-points}
-use Rattle.arcstring_listing.specs.declared.listing.Counts.{Counts}
+use Rattle.arcstring_tally.specs.declared.counts.Counts.{Counts}
 use Rattle.same_crossings.specs.BuiltChanges.{ClosesOnItself}
 use Rattle.same_crossings.proofs.AcceptedAgain.{range-order, length-order}
 use Rattle.same_crossings.proofs.BuiltChanges.{built-reversed, strings-trade}
 use Rattle.textform.specs.Text.{reading, wellFormed}
 use Rattle.textform.specs.Print.{printed}
+use Rattle.arcstring_check.proofs.Checks.{build-by-parts}
 use Rattle.textform.specs.Count.{countsBetween, countBuilt, countState, output}
 use Rattle.textform.specs.CountLaws.{PrintsTraded, inA, inB, PrintsReversed}
-use Rattle.textform.proofs.Readings.{check-by-parts}
-use Rattle.textform.proofs.Triples.{whole-triples}
+use Rattle.textform.proofs.inner.read.Triples.{whole-triples}
 
 -- ---- the counts of two lists of points
 
@@ -34,7 +34,7 @@ module _ (a : List Float) (whole : length a % 3 ≡ 0) where
   check-reversed : buildCheck (flat (reverse (points a))) ≡ buildCheck a
   check-reversed =
       let d = Permᴰ·reverse (points a) in
-      check-by-parts (flat (reverse (points a))) (flat (points a)) (length-order d) (range-order d) ∙ ap buildCheck (flat-points (length a / 3) a (omega arith))
+      build-by-parts (flat (reverse (points a))) (flat (points a)) (length-order d) (range-order d) ∙ ap buildCheck (flat-points (length a / 3) a (omega arith))
 
   module _ (closes : ClosesOnItself (points a)) where
     between-reversed : (t : ArcString) → countsBetween (builtString (points (flat (reverse (points a))))) t ≡ countsBetween (builtString (points a)) t

@@ -1,19 +1,18 @@
 -- The input in pieces: a reader that has begun holds none, one that is fed a piece holds one more, and what is printed then is the output of all.
 -- Assumes nothing.
 use mathlib.Core.Path.{_≡_, refl, sym, ap, _∙_, subst}
-use mathlib.Core.List.{List, [], _∷_, _++_, append-nil, append-assoc, flatten}
-use mathlib.Core.List.{List·Memᴰ, List·Memᴰ·append-cases, List·Memᴰ·eq-of-singleton, List·Memᴰ·not-nil}
+use mathlib.Core.List.{List, [], _∷_, _++_, append-nil, append-assoc, flatten, List·Memᴰ, List·Memᴰ·append-cases, List·Memᴰ·eq-of-singleton, List·Memᴰ·not-nil}
 use mathlib.Core.Logic.{⊎-elim}
 use Prim.Native.Nat.{ℕ}
 use lib.Ieee.{Float}
-use Rattle.textform.specs.declared.read.Reader.{Reader}
+use Rattle.textform.specs.declared.inner.read.Reader.{Reader}
 use Rattle.textform.specs.Text.{State, start, fedWith}
 use Rattle.textform.specs.Kept.{keep, heldState, Sound, keptReading}
-use Rattle.textform.specs.Count.{countState, output}
+use Rattle.textform.specs.Count.{countState}
 use Rattle.textform.specs.Print.{printed}
 use Rattle.textform.specs.Pieces.{OneRead, ReadInPieces, PrintedOfPieces}
 use Rattle.textform.proofs.Readings.{fed-in-pieces}
-use Rattle.textform.proofs.Outputs.{begun, whole-output}
+use Rattle.textform.proofs.inner.count.Outputs.{begun, whole-output}
 
 flatten-last : (pieces : List (List ℕ)) (piece : List ℕ) → flatten (pieces ++ (piece ∷ [])) ≡ flatten pieces ++ piece
 unfolding flatten

@@ -1,30 +1,31 @@
 -- The whole reading: it may be done in pieces; and what the code keeps of it answers as the plain reading does: the theorems of `specs/TextLaws.antt`.
 -- Assumes nothing.
 use mathlib.Core.Path.{_≡_, refl, sym, ap, ap₂, _∙_}
-use mathlib.Core.Bool.{Bool, true, false, not, _&&_}
+use mathlib.Core.Bool.{Bool, true, false, _&&_, false≢true}
 use mathlib.Core.List.{List, [], _∷_, _++_, map, map-append}
 use mathlib.Core.Option.{Option, none, some}
-use Prim.Native.Nat.{ℕ, zero, suc, _+_, _*_, _/_, _%_, _≤_}
+use Prim.Native.Nat.{ℕ, zero, suc, _+_, _*_, _%_, _≤_}
 use native.Mathlib.Omega.{arith}
 use lib.Dec.{ltb, eqb}
 use lib.ListN.{length, take, length-append, length-map}
 use lib.Seq.{take-all, take-append-le, length-take-le}
 use lib.Ieee.{Float, nan, inf, fin, le, binary64, ofBits}
 use borrow.Author.Tests.{ltb-true, ltb-false}
-use Rattle.arcstring.specs.Answer.{Answer, refused, answered, unlessRefused, numberIf, firstOf, pick}
+use Rattle.arcstring_check.specs.Answer.{Answer, answered, unlessRefused, pick}
 use Rattle.arcstring.specs.Points.{points}
-use Rattle.arcstring.specs.Build.{builtString}
-use Rattle.arcstring.specs.Check.{inRange, allInRange, listCheck, buildCheck}
-use Rattle.arcstring.proofs.Checks.{too-many, build-enough, build-whole}
-use Rattle.arcstring_listing.specs.declared.listing.Counts.{Counts}
-use Rattle.textform.specs.declared.read.Part.{Part}
-use Rattle.textform.specs.declared.read.Part.the-variants as P
-use Rattle.textform.specs.Text.{State, start, partAt, placeAfter, hexDigit, malformed, onward, ifDigit, append, withFloat, stepAt, stepWith, fedWith, reading, wellFormed}
-use Rattle.textform.specs.Kept.{inPlace, keep, keptReading}
+use Rattle.arcstring_build.specs.Build.{builtString}
+use Rattle.arcstring_check.specs.Check.{inRange, allInRange, buildCheck}
+use Rattle.arcstring_check.proofs.Checks.{too-many, build-enough, build-whole, build-by-parts}
+use Rattle.arcstring_tally.specs.declared.counts.Counts.{Counts}
+use Rattle.textform.specs.declared.inner.read.Part.{Part}
+use Rattle.textform.specs.declared.inner.read.Part.the-variants as P
+use Rattle.textform.specs.Text.{letterA, letterB, State, start, partAt, placeAfter, hexDigit, malformed, onward, ifDigit, append, withFloat, stepAt}
+use Rattle.textform.specs.Text.{stepWith, fedWith, reading, wellFormed}
+use Rattle.textform.specs.Kept.{floatsKept, inPlace, keep, keptReading}
 use Rattle.textform.specs.Count.{countsBetween, countBuilt, countState}
 use Rattle.textform.specs.TextLaws.{FedInPieces, KeptCounts}
-use Rattle.textform.proofs.Keeping.{keep-full, keep-more}
-use Rattle.textform.proofs.Triples.{whole-triples}
+use Rattle.textform.proofs.inner.read.Keeping.{keep-full, keep-more}
+use Rattle.textform.proofs.inner.read.Triples.{whole-triples}
 
 -- ---- in pieces
 
@@ -38,38 +39,38 @@ fed-in-pieces add s (x ∷ xs) ys = fed-in-pieces add (stepWith add s x) xs ys
 
 -- what is kept of a list: its first 1,025 points, with 2 in the place of each NaN
 unfoldable pub keptOf : List Float → List Float
-keptOf v = take 3075 (map inPlace v)
+keptOf v = take floatsKept (map inPlace v)
 
 -- what is kept of a state
 abbrev pub keptState : State → State
 keptState s = record { place = s .place; second = s .second; word = s .word; a = keptOf (s .a); b = keptOf (s .b) }
 
 -- a short list is kept whole
-pub kept-short : (v : List Float) → length v ≤ 3075 → keptOf v ≡ map inPlace v
+pub kept-short : (v : List Float) → length v ≤ floatsKept → keptOf v ≡ map inPlace v
 unfolding keptOf
-kept-short v h = take-all 3075 (map inPlace v) (omega (arith, length-map v inPlace))
+kept-short v h = take-all floatsKept (map inPlace v) (omega (arith, length-map v inPlace))
 
-pub kept-long : (v : List Float) → 3075 ≤ length v → length (keptOf v) ≡ 3075
+pub kept-long : (v : List Float) → floatsKept ≤ length v → length (keptOf v) ≡ floatsKept
 unfolding keptOf
-kept-long v h = length-take-le 3075 (map inPlace v) (omega (arith, length-map v inPlace))
+kept-long v h = length-take-le floatsKept (map inPlace v) (omega (arith, length-map v inPlace))
 
 -- one float more
 kept-append : (x : Float) (v : List Float) → keep x (keptOf v) ≡ keptOf (append x v)
 unfolding keptOf
-kept-append x v = by-length (ltb (length v) 3075) refl
+kept-append x v = by-length (ltb (length v) floatsKept) refl
   where
-    by-length : (t : Bool) → ltb (length v) 3075 ≡ t → keep x (keptOf v) ≡ keptOf (append x v)
+    by-length : (t : Bool) → ltb (length v) floatsKept ≡ t → keep x (keptOf v) ≡ keptOf (append x v)
     by-length true e =
-        let l = ltb-true (length v) 3075 e in
+        let l = ltb-true (length v) floatsKept e in
         let n : length (keptOf v) ≡ length v = ap length (kept-short v (omega arith)) ∙ length-map v inPlace in
         sym (keep-more x (keptOf v) (omega arith))
         ∙ ap (λ (k : List Float). k ++ (inPlace x ∷ [])) (kept-short v (omega arith))
         ∙ sym (map-append inPlace v (x ∷ []))
         ∙ sym (kept-short (append x v) (omega (arith, length-append v (x ∷ []))))
     by-length false e =
-        let l = ltb-false (length v) 3075 e in
-        sym (keep-full x (keptOf v) (omega (arith, kept-long v l)))
-        ∙ sym (ap (take 3075) (map-append inPlace v (x ∷ [])) ∙ take-append-le 3075 (map inPlace v) (inPlace x ∷ []) (omega (arith, length-map v inPlace)))
+        let l = ltb-false (length v) floatsKept e in
+        let first = take-append-le floatsKept (map inPlace v) (inPlace x ∷ []) (omega (arith, length-map v inPlace)) in
+        sym (keep-full x (keptOf v) (omega (arith, kept-long v l))) ∙ sym (ap (take floatsKept) (map-append inPlace v (x ∷ [])) ∙ first)
 
 module _ (s : State) where
   kept-float : (x : Float) → withFloat keep x (keptState s) ≡ keptState (withFloat append x s)
@@ -90,7 +91,7 @@ module _ (s : State) where
       by-test : (t : Bool) → pick t (onward (s .second) 0 (keptState s)) (malformed (keptState s)) ≡ keptState (pick t (onward (s .second) 0 s) (malformed s))
       by-test true = refl
       by-test false = refl
-  kept-part P.Name byte = by-test (eqb byte 65) (eqb byte 66)
+  kept-part P.Name byte = by-test (eqb byte letterA) (eqb byte letterB)
     where
       by-test : (t u : Bool) → pick t (onward false 0 (keptState s)) (pick u (onward true 0 (keptState s)) (malformed (keptState s)))
           ≡ keptState (pick t (onward false 0 s) (pick u (onward true 0 s) (malformed s)))
@@ -141,13 +142,13 @@ ranges-in-place (x ∷ v) = ap₂ _&&_ (range-in-place x) (ranges-in-place v)
 -- no coordinate in range is a NaN
 in-range-same : (x : Float) → inRange x ≡ true → inPlace x ≡ x
 unfolding inRange le
-in-range-same nan h = absurd (let z : _≡_ {A = Bool} false true = h in let y : _≡_ {A = ℕ} 0 1 = cc in omega arith)
+in-range-same nan h = absurd (false≢true h)
 in-range-same (inf s) h = refl
 in-range-same (fin s m e) h = refl
 
 both-true : (t u : Bool) → t && u ≡ true → (t ≡ true) × (u ≡ true)
 both-true true u h = (refl, h)
-both-true false u h = absurd (let z : _≡_ {A = ℕ} 0 1 = cc in omega arith)
+both-true false u h = absurd (false≢true h)
 
 all-in-range-same : (v : List Float) → allInRange v ≡ true → map inPlace v ≡ v
 unfolding allInRange
@@ -156,23 +157,17 @@ all-in-range-same (x ∷ v) h =
     let both = both-true (inRange x) (allInRange v) h in
     ap₂ _∷_ (in-range-same x (both .0)) (all-in-range-same v (both .1))
 
--- the checks see of a list its length, and whether all its coordinates are in range
-pub check-by-parts : (v w : List Float) → length v ≡ length w → allInRange v ≡ allInRange w → buildCheck v ≡ buildCheck w
-unfolding buildCheck listCheck
-check-by-parts v w h g =
-    λ i. firstOf (numberIf (not (eqb (h i % 3) 0)) 1) (firstOf (numberIf (ltb (h i / 3) 2) 2) (firstOf (numberIf (ltb 1024 (h i / 3)) 3) (numberIf (not (g i)) 4)))
-
 module _ (v : List Float) where
   -- of whole triples, what is kept is refused as the list is
   pub kept-check : length v % 3 ≡ 0 → buildCheck (keptOf v) ≡ buildCheck v
-  kept-check h = by-length (ltb (length v) 3075) refl
+  kept-check h = by-length (ltb (length v) floatsKept) refl
     where
-      by-length : (t : Bool) → ltb (length v) 3075 ≡ t → buildCheck (keptOf v) ≡ buildCheck v
+      by-length : (t : Bool) → ltb (length v) floatsKept ≡ t → buildCheck (keptOf v) ≡ buildCheck v
       by-length true e =
-          let l = ltb-true (length v) 3075 e in
-          ap buildCheck (kept-short v (omega arith)) ∙ check-by-parts (map inPlace v) v (length-map v inPlace) (ranges-in-place v)
+          let l = ltb-true (length v) floatsKept e in
+          ap buildCheck (kept-short v (omega arith)) ∙ build-by-parts (map inPlace v) v (length-map v inPlace) (ranges-in-place v)
       by-length false e =
-          let l = ltb-false (length v) 3075 e in
+          let l = ltb-false (length v) floatsKept e in
           let n = kept-long v l in
           sym (too-many 0 (keptOf v) (omega arith) refl (omega arith) ∙ build-enough (keptOf v) (omega arith))
           ∙ (too-many 0 v h refl (omega arith) ∙ build-enough v (omega arith))
@@ -193,21 +188,21 @@ behind-checks (suc m) n x y h = refl
 kept-built : (a b : List Float) → length a % 3 ≡ 0 → length b % 3 ≡ 0 → countBuilt (keptOf a) (keptOf b) ≡ countBuilt a b
 unfolding countBuilt
 kept-built a b h k =
-    ap₂ (λ (m n : ℕ). unlessRefused m (unlessRefused n (answered (countsBetween (builtString (points (keptOf a))) (builtString (points (keptOf b))))))) (kept-check a h) (kept-check b k)
-    ∙ behind-checks (buildCheck a) (buildCheck b) _ _
-    (λ p q. ap₂ (λ (v w : List Float). answered (countsBetween (builtString (points v)) (builtString (points w)))) (kept-accepted a p) (kept-accepted b q))
+    ap₂ (λ (m n : ℕ). unlessRefused m (unlessRefused n (counts (keptOf a) (keptOf b)))) (kept-check a h) (kept-check b k)
+    ∙ behind-checks (buildCheck a) (buildCheck b) _ _ (λ p q. ap₂ counts (kept-accepted a p) (kept-accepted b q))
+  where
+    counts : List Float → List Float → Answer Counts
+    counts v w = answered (countsBetween (builtString (points v)) (builtString (points w)))
+
+-- a choice by a test, which makes the first two the same where it holds
+pick-same : {A : Type 0} (t : Bool) (x y z : A) → (t ≡ true → x ≡ y) → pick t x z ≡ pick t y z
+pick-same true x y z h = h refl
+pick-same false x y z h = refl
 
 -- so the counts are those of the plain reading
 pub kept-counts : KeptCounts
 unfolding countState wellFormed
-kept-counts bytes = ap countState (kept-reading bytes) ∙ by-test (wellFormed (reading bytes)) refl
-  where
-    by-test : (t : Bool) → wellFormed (reading bytes) ≡ t
-        → pick (wellFormed (reading bytes)) (countBuilt (keptOf (reading bytes .a)) (keptOf (reading bytes .b))) (refused 8)
-        ≡ pick (wellFormed (reading bytes)) (countBuilt (reading bytes .a) (reading bytes .b)) (refused 8)
-    by-test true e =
-        let w = whole-triples bytes e in
-        ap (λ (x : Answer Counts). pick (wellFormed (reading bytes)) x (refused 8)) (kept-built (reading bytes .a) (reading bytes .b) (w .0) (w .1))
-    by-test false e =
-        ap (λ (t : Bool). pick t (countBuilt (keptOf (reading bytes .a)) (keptOf (reading bytes .b))) (refused 8)) e
-        ∙ sym (ap (λ (t : Bool). pick t (countBuilt (reading bytes .a) (reading bytes .b)) (refused 8)) e)
+kept-counts bytes =
+    let s = reading bytes in
+    ap countState (kept-reading bytes)
+    ∙ pick-same (wellFormed s) _ _ _ (λ e. let w = whole-triples bytes e in kept-built (s .a) (s .b) (w .0) (w .1))

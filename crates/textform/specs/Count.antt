@@ -2,17 +2,17 @@
 use mathlib.Core.List.{List}
 use Prim.Native.Nat.{ℕ}
 use lib.Ieee.{Float}
-use Rattle.arcstring.specs.Answer.{Answer, refused, answered, unlessRefused, pick}
+use Rattle.arcstring_check.specs.Answer.{Answer, refused, answered, unlessRefused, pick}
 use Rattle.arcstring.specs.Points.{ArcString, points}
-use Rattle.arcstring.specs.Check.{buildCheck}
-use Rattle.arcstring.specs.Build.{builtString}
-use Rattle.arcstring_crossing.specs.Leg.{legs}
-use Rattle.arcstring_listing.specs.declared.listing.Counts.{Counts}
-use Rattle.arcstring_listing.specs.Listing.{pairsBetween, countsOf}
+use Rattle.arcstring_check.specs.Check.{buildCheck}
+use Rattle.arcstring_build.specs.Build.{builtString}
+use Rattle.arcstring.specs.Leg.{legs}
+use Rattle.arcstring_tally.specs.declared.counts.Counts.{Counts}
+use Rattle.arcstring_tally.specs.Pairs.{pairsBetween, countsOf}
 use Rattle.textform.specs.Text.{State, reading, wellFormed}
 use Rattle.textform.specs.Print.{printed}
-use Rattle.textform.specs.declared.count.Outcome.{Outcome}
-use Rattle.textform.specs.declared.count.Outcome.the-variants as O
+use Rattle.textform.specs.declared.inner.count.Conclusion.{Conclusion}
+use Rattle.textform.specs.declared.inner.count.Conclusion.the-variants as C
 
 -- the counts of every leg of the first with every leg of the second
 unfoldable pub countsBetween : ArcString → ArcString → Counts
@@ -31,6 +31,6 @@ unfoldable pub output : List ℕ → List ℕ
 output bytes = printed (countState (reading bytes))
 
 -- what the code answers
-abbrev pub outcomeAnswer : Outcome → Answer Counts
-outcomeAnswer (O.Counts c) = answered c
-outcomeAnswer (O.Refused n) = refused n
+abbrev pub conclusionAnswer : Conclusion → Answer Counts
+conclusionAnswer (C.Counts c) = answered c
+conclusionAnswer (C.Refused n) = refused n

@@ -5,9 +5,9 @@ use mathlib.Core.Bool.{true}
 use mathlib.Core.List.{List, reverse}
 use Prim.Native.Nat.{ℕ}
 use lib.Ieee.{Float}
-use Rattle.arcstring.specs.Answer.{answered}
+use Rattle.arcstring_check.specs.Answer.{answered}
 use Rattle.arcstring.specs.Points.{points, flat}
-use Rattle.arcstring_listing.specs.declared.listing.Counts.{Counts}
+use Rattle.arcstring_tally.specs.declared.counts.Counts.{Counts}
 use Rattle.same_crossings.specs.BuiltChanges.{ClosesOnItself}
 use Rattle.textform.specs.Text.{State, reading, wellFormed}
 use Rattle.textform.specs.Count.{countState, output}

@@ -1,20 +1,26 @@
--- The reading as the code keeps it: at most 1,025 points of each string, and 2 in the place of a NaN, which Rattle does not make from bits. For the contracts of inner functions. Definitions only.
+-- The reading as the code keeps it: at most 1,025 points of each string, and 2 in the place of a NaN, which Rattle does not make from bits. For the
+-- contracts of inner functions. Definitions only.
+use mathlib.Core.Path.{_≡_}
 use mathlib.Core.Bool.{false}
 use mathlib.Core.List.{List, [], _∷_, _++_}
 use mathlib.Core.Option.{Option, none, some}
-use Prim.Native.Nat.{ℕ, _-_, _%_, _^_, _≤_, _<_}
+use Prim.Native.Nat.{ℕ, _+_, _-_, _%_, _^_, _≤_, _<_}
 use lib.ListN.{length, take}
 use lib.Dec.{ltb}
 use lib.IntN.{pos}
 use lib.Ieee.{Float, nan, inf, fin}
-use Rattle.arcstring.specs.Answer.{Answer, answered, unlessRefused, mapAnswer, pick}
+use Rattle.arcstring_check.specs.Answer.{Answer, answered, unlessRefused, mapAnswer, pick}
 use Rattle.arcstring.specs.Points.{ArcString, points, flat}
-use Rattle.arcstring.specs.Check.{buildCheck}
-use Rattle.arcstring.specs.Build.{builtString}
-use Rattle.textform.specs.declared.read.Digit.{Digit}
-use Rattle.textform.specs.declared.read.Digit.the-variants as D
-use Rattle.textform.specs.declared.read.Reader.{Reader}
-use Rattle.textform.specs.Text.{State, fedWith, start}
+use Rattle.arcstring_check.specs.Check.{buildCheck}
+use Rattle.arcstring_build.specs.Build.{builtString}
+use Rattle.textform.specs.declared.inner.read.Digit.{Digit}
+use Rattle.textform.specs.declared.inner.read.Digit.the-variants as D
+use Rattle.textform.specs.declared.inner.read.Reader.{Reader}
+use Rattle.textform.specs.Text.{rowStart, malformedPlace, floatBytes, State, fedWith, start}
+
+-- The floats kept of a string: those of 1,025 points, one more than a string may have.
+abbrev pub floatsKept : ℕ
+floatsKept = 3075
 
 abbrev pub digitValue : Digit → Option ℕ
 digitValue (D.Value d) = some d
@@ -28,7 +34,7 @@ inPlace (fin s m e) = fin s m e
 
 -- one float more, unless there are 1,025 points
 unfoldable pub keep : Float → List Float → List Float
-keep x l = pick (ltb (length l) 3075) (l ++ (inPlace x ∷ [])) l
+keep x l = pick (ltb (length l) floatsKept) (l ++ (inPlace x ∷ [])) l
 
 -- what the reader and the two lists hold
 abbrev pub heldState : Reader → List Float → List Float → State
@@ -36,14 +42,18 @@ heldState r a b = record { place = r .place; second = r .second; word = r .word;
 
 -- how many digits of a float stand before a place
 unfoldable pub digitsBefore : ℕ → ℕ
-digitsBefore place = (place - 14) % 17 - 1
+digitsBefore place = (place - (rowStart + 1)) % floatBytes - 1
 
 -- within its bounds
 pub record Sound (r : Reader) : Type 0 where
-  pub place : r .place ≤ 66
+  pub place : r .place ≤ malformedPlace
   pub word : r .word < 16 ^ digitsBefore (r .place)
-  pub a : r .a ≤ 3075
-  pub b : r .b ≤ 3075
+  pub a : r .a ≤ floatsKept
+  pub b : r .b ≤ floatsKept
+
+-- sound again, and whatever the two lists hold, what a change makes of what was held
+abbrev pub Becomes : Reader → (State → State) → Reader → Type 0
+Becomes r change q = Sound q × ((a b : List Float) → heldState q a b ≡ change (heldState r a b))
 
 unfoldable pub keptReading : List ℕ → State
 keptReading bytes = fedWith keep start bytes

@@ -5,13 +5,17 @@ use mathlib.Core.List.{List, flatten, List·Memᴰ}
 use Prim.Native.Nat.{ℕ, _≤_}
 use lib.ListN.{length}
 use lib.Ieee.{Float}
-use Rattle.textform.specs.declared.read.Reader.{Reader}
+use Rattle.textform.specs.declared.inner.read.Reader.{Reader}
 use Rattle.textform.specs.Kept.{heldState, Sound, keptReading}
 use Rattle.textform.specs.Count.{output}
 
--- at least 1 byte, and at most the 4,096 of a buffer
+-- the bytes of a buffer
+abbrev pub mostRead : ℕ
+mostRead = 4096
+
+-- at least 1 byte, and at most those of a buffer
 abbrev pub OneRead : List ℕ → Type 0
-OneRead piece = (1 ≤ length piece) × (length piece ≤ 4096)
+OneRead piece = (1 ≤ length piece) × (length piece ≤ mostRead)
 
 -- the reader and the two lists hold what was kept of the pieces, one after another
 pub record ReadInPieces (r : Reader) (a b : List Float) : Type 0 where

@@ -2,17 +2,25 @@
 use mathlib.Core.List.{List, [], _∷_, _++_}
 use Prim.Native.Nat.{ℕ, zero, suc, _+_, _/_, _%_}
 use lib.Dec.{ltb}
-use Rattle.arcstring.specs.Answer.{Answer, refused, answered, pick}
-use Rattle.arcstring_listing.specs.declared.listing.Counts.{Counts}
+use Rattle.arcstring_check.specs.Answer.{Answer, refused, answered, pick}
+use Rattle.arcstring_tally.specs.declared.counts.Counts.{Counts}
+use Rattle.textform.specs.Text.{blank, lineFeed}
+
+-- room for every text that is printed
+abbrev pub printRoom : ℕ
+printRoom = 128
+
+-- the most decimal digits of a 64-bit number
+abbrev pub mostDigits : ℕ
+mostDigits = 20
 
 -- the decimal digits of a number, at most so many
 unfoldable pub decimalWithin : ℕ → ℕ → List ℕ
 decimalWithin zero n = []
 decimalWithin (suc most) n = pick (ltb n 10) ((48 + n) ∷ []) (decimalWithin most (n / 10) ++ ((48 + n % 10) ∷ []))
 
--- a 64-bit number has at most 20
 unfoldable pub decimal : ℕ → List ℕ
-decimal n = decimalWithin 20 n
+decimal n = decimalWithin mostDigits n
 
 -- `clean end grazing apart`
 abbrev pub heading : List ℕ
@@ -24,10 +32,15 @@ refusalWord = 114 ∷ 101 ∷ 102 ∷ 117 ∷ 115 ∷ 97 ∷ 108 ∷ []
 
 unfoldable pub countsText : Counts → List ℕ
 countsText c =
-    heading ++ (10 ∷ (decimal (c .clean) ++ (32 ∷ (decimal (c .end) ++ (32 ∷ (decimal (c .grazing) ++ (32 ∷ (decimal (c .apart) ++ (10 ∷ [])))))))))
+    heading
+    ++ (lineFeed ∷ (decimal (c .clean)
+    ++ (blank ∷ (decimal (c .end)
+    ++ (blank ∷ (decimal (c .grazing)
+    ++ (blank ∷ (decimal (c .apart)
+    ++ (lineFeed ∷ [])))))))))
 
 unfoldable pub refusalText : ℕ → List ℕ
-refusalText n = refusalWord ++ (32 ∷ (decimal n ++ (10 ∷ [])))
+refusalText n = refusalWord ++ (blank ∷ (decimal n ++ (lineFeed ∷ [])))
 
 abbrev pub printed : Answer Counts → List ℕ
 printed (refused n) = refusalText n

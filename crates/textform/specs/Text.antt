@@ -1,4 +1,5 @@
--- The text form of two strings, read byte by byte: a line of names, `string x y z`, and then a row for each point: A or B, three floats of 16 hexadecimal digits each after a blank, and a line feed. Definitions only.
+-- The text form of two strings, read byte by byte: a line of names, `string x y z`, and then a row for each point: A or B, three floats of 16 hexadecimal
+-- digits each after a blank, and a line feed. Definitions only.
 use mathlib.Core.Bool.{Bool, true, false}
 use mathlib.Core.List.{List, [], _∷_, _++_}
 use mathlib.Core.Option.{Option, none, some}
@@ -6,9 +7,24 @@ use Prim.Native.Nat.{ℕ, _+_, _-_, _*_, _%_}
 use lib.ListN.{getD}
 use lib.Dec.{ltb, leb, eqb}
 use lib.Ieee.{Float, binary64, ofBits}
-use Rattle.arcstring.specs.Answer.{pick}
-use Rattle.textform.specs.declared.read.Part.{Part}
-use Rattle.textform.specs.declared.read.Part.the-variants as P
+use Rattle.arcstring_check.specs.Answer.{pick}
+use Rattle.textform.specs.declared.inner.read.Part.{Part}
+use Rattle.textform.specs.declared.inner.read.Part.the-variants as P
+
+-- ---- the bytes
+
+abbrev pub blank : ℕ
+blank = 32
+
+abbrev pub lineFeed : ℕ
+lineFeed = 10
+
+-- the names of the two strings, A and B
+abbrev pub letterA : ℕ
+letterA = 65
+
+abbrev pub letterB : ℕ
+letterB = 66
 
 -- ---- what stands at each place
 
@@ -16,21 +32,44 @@ use Rattle.textform.specs.declared.read.Part.the-variants as P
 abbrev pub namesLine : List ℕ
 namesLine = 115 ∷ 116 ∷ 114 ∷ 105 ∷ 110 ∷ 103 ∷ 32 ∷ 120 ∷ 32 ∷ 121 ∷ 32 ∷ 122 ∷ 10 ∷ []
 
--- a float with the blank before it takes 17 places
-unfoldable pub floatPart : ℕ → Part
-floatPart k = pick (eqb k 0) (P.Exactly 32) (pick (eqb k 16) P.LastDigit P.Digit)
-
--- a row takes 53: the name, three floats, the line feed
-unfoldable pub rowPart : ℕ → Part
-rowPart k = pick (eqb k 0) P.Name (pick (eqb k 52) (P.Exactly 10) (floatPart ((k - 1) % 17)))
-
 -- The names line stands at places 0 to 12, a row at 13 to 65; place 66 is where malformed input ends up.
+abbrev pub rowStart : ℕ
+rowStart = 13
+
+abbrev pub rowLast : ℕ
+rowLast = 65
+
+abbrev pub malformedPlace : ℕ
+malformedPlace = 66
+
+-- a row's bytes: the name, three floats, the line feed
+abbrev pub rowBytes : ℕ
+rowBytes = 53
+
+-- where in its row the line feed stands
+abbrev pub lineFeedAt : ℕ
+lineFeedAt = 52
+
+-- a float's bytes, the blank before it among them, and where in them the last digit stands
+abbrev pub floatBytes : ℕ
+floatBytes = 17
+
+abbrev pub lastDigitAt : ℕ
+lastDigitAt = 16
+
+unfoldable pub floatPart : ℕ → Part
+floatPart k = pick (eqb k 0) (P.Exactly blank) (pick (eqb k lastDigitAt) P.LastDigit P.Digit)
+
+unfoldable pub rowPart : ℕ → Part
+rowPart k = pick (eqb k 0) P.Name (pick (eqb k lineFeedAt) (P.Exactly lineFeed) (floatPart ((k - 1) % floatBytes)))
+
 unfoldable pub partAt : ℕ → Part
-partAt place = pick (ltb place 13) (P.Exactly (getD namesLine place 0)) (pick (ltb place 66) (rowPart (place - 13)) P.Nothing)
+partAt place =
+    pick (ltb place rowStart) (P.Exactly (getD namesLine place 0)) (pick (ltb place malformedPlace) (rowPart (place - rowStart)) P.Nothing)
 
 -- after a row comes the next one
 unfoldable pub placeAfter : ℕ → ℕ
-placeAfter place = pick (eqb place 65) 13 (place + 1)
+placeAfter place = pick (eqb place rowLast) rowStart (place + 1)
 
 -- 0 to 9, A to F
 unfoldable pub hexDigit : ℕ → Option ℕ
@@ -51,7 +90,7 @@ abbrev pub start : State
 start = record { place = 0; second = false; word = 0; a = []; b = [] }
 
 abbrev pub malformed : State → State
-malformed s = record { place = 66; second = s .second; word = 0; a = s .a; b = s .b }
+malformed s = record { place = malformedPlace; second = s .second; word = 0; a = s .a; b = s .b }
 
 -- on to the next place: in a row of this string, with these digits
 abbrev pub onward : Bool → ℕ → State → State
@@ -65,12 +104,17 @@ ifDigit (some d) f other = f d
 module _ (add : Float → List Float → List Float) where
   -- a whole float goes to the string of its row
   abbrev pub withFloat : Float → State → State
-  withFloat x s =
-      record { place = placeAfter (s .place); second = s .second; word = 0; a = pick (s .second) (s .a) (add x (s .a)); b = pick (s .second) (add x (s .b)) (s .b) }
+  withFloat x s = record {
+    place = placeAfter (s .place);
+    second = s .second;
+    word = 0;
+    a = pick (s .second) (s .a) (add x (s .a));
+    b = pick (s .second) (add x (s .b)) (s .b);
+  }
 
   abbrev pub stepAt : Part → State → ℕ → State
   stepAt (P.Exactly c) s byte = pick (eqb byte c) (onward (s .second) 0 s) (malformed s)
-  stepAt P.Name s byte = pick (eqb byte 65) (onward false 0 s) (pick (eqb byte 66) (onward true 0 s) (malformed s))
+  stepAt P.Name s byte = pick (eqb byte letterA) (onward false 0 s) (pick (eqb byte letterB) (onward true 0 s) (malformed s))
   stepAt P.Digit s byte = ifDigit (hexDigit byte) (λ (d : ℕ). onward (s .second) (16 * s .word + d) s) (malformed s)
   stepAt P.LastDigit s byte = ifDigit (hexDigit byte) (λ (d : ℕ). withFloat (ofBits binary64 (16 * s .word + d)) s) (malformed s)
   stepAt P.Nothing s byte = malformed s
@@ -99,4 +143,4 @@ reading bytes = fed start bytes
 
 -- The input is well formed where it ends after the names line or after a row.
 unfoldable pub wellFormed : State → Bool
-wellFormed s = eqb (s .place) 13
+wellFormed s = eqb (s .place) rowStart

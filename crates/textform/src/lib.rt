@@ -1,9 +1,8 @@
 // The text form that the programs read and write: two strings as a line of names and a row for each point, read byte by byte
 // so that input of any length comes in pieces; and counts or a refusal, printed.
 //
-//     read     the machine over the bytes
-//     print    decimal counts, the refusal line
-//     count    the counting program's answer: read, built, counted, printed
-pub mod count;
-pub mod print;
-pub mod read;
+//     inner          for the programs of this repository
+//     inner::read    the machine over the bytes
+//     inner::print   decimal counts, the refusal line
+//     inner::count   the counting program's answer: read, built, counted, printed
+pub mod inner;

@@ -14,9 +14,9 @@ use Rattle.ieee754.specs.Units.{notNegative}
 use Rattle.ieee754.specs.Closeness.{Close}
 use Rattle.ieee754.proofs.Units.{abs-units, abs-fits, abs-not-negative}
 use Rattle.ieee754.proofs.Spacing.{gap-below}
-use Rattle.sphericalpoint.specs.Sqrt.{sqrtOf}
-use Rattle.sphericalpoint.specs.NearestRoot.{inUnits, NearestRoot}
-use Rattle.sphericalpoint.proofs.sqrt.NearestLaw.{sqrt-nearest}
+use Rattle.square_root.specs.Sqrt.{sqrtOf}
+use Rattle.square_root.specs.NearestRoot.{inUnits, NearestRoot}
+use Rattle.square_root.proofs.NearestLaw.{sqrt-nearest}
 
 -- ---- the numbers alone, with u = v + 1 for 2 ^ 53, q = x * x, and s the number under the root, in units of a square
 

@@ -20,10 +20,10 @@ use Rattle.ieee754.proofs.Closeness.{close-sum, close-self, near-of-exact, near
 use Rattle.ieee754.proofs.Units.{zero-units}
 use Rattle.ieee754.proofs.Operations.{product-close, square-not-negative, sum-close, sum-from, sum-not-negative}
 use Rattle.sphericalpoint.specs.declared.SphericalPoint.{SphericalPoint}
-use Rattle.sphericalpoint.specs.Sqrt.{sqrtOf}
-use Rattle.sphericalpoint.specs.NearestRoot.{inUnits}
-use Rattle.sphericalpoint.proofs.sqrt.NearestLaw.{sqrt-nearest}
-use Rattle.sphericalpoint.proofs.sqrt.RootClose.{root-close}
+use Rattle.square_root.specs.Sqrt.{sqrtOf}
+use Rattle.square_root.specs.NearestRoot.{inUnits}
+use Rattle.square_root.proofs.NearestLaw.{sqrt-nearest}
+use Rattle.square_root.proofs.RootClose.{root-close}
 use Rattle.unit_length.specs.UnitPoint.{IsF64, InRange, squares}
 use Rattle.unit_length.proofs.Coordinate.{coordinate-le}
 

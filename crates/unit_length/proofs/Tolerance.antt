@@ -13,7 +13,7 @@ use lib.Ieee.Fits.{down-pos}
 use Rattle.ieee754.specs.Units.{notNegative}
 use Rattle.ieee754.proofs.Units.{exact-units}
 use Rattle.sphericalpoint.specs.Vector.{equalityTolerance}
-use Rattle.sphericalpoint.specs.NearestRoot.{inUnits}
+use Rattle.square_root.specs.NearestRoot.{inUnits}
 
 abbrev tolerance : Float
 tolerance = fin false 0x107e1fe91b0b7 (negsuc 82)

@@ -3,8 +3,7 @@
 use mathlib.Core.Path.{_≡_, refl, sym, ap, _∙_, subst}
 use mathlib.Core.Bool.{Bool, true, false, not}
 use Prim.Native.Nat.{ℕ, _+_, _*_, _^_, _≤_, _<_}
-use native.Mathlib.Nat.{le-refl, le-trans, le-of-lt, lt-of-not-le, not-le-of-lt, mul-pos, mul-comm, mul-le-mul, mul-le-mul-right}
-use native.Mathlib.Nat.{add-le-add}
+use native.Mathlib.Nat.{le-refl, le-trans, le-of-lt, lt-of-not-le, not-le-of-lt, mul-pos, mul-comm, mul-le-mul, mul-le-mul-right, add-le-add}
 use native.Mathlib.Decide.{decLe}
 use lib.Dec.{T, lit≤}
 use lib.Pow.{pow-pos}
@@ -20,8 +19,8 @@ use Rattle.ieee754.proofs.Operations.{quotient-close, quotient-at-most-one}
 use Rattle.sphericalpoint.specs.declared.SphericalPoint.{SphericalPoint}
 use Rattle.sphericalpoint.specs.Vector.{equalityTolerance, xyzMul, xyzDiv, xyzSum, xyzLength, normalized}
 use Rattle.sphericalpoint.specs.Point.{pickPoint, normalizedUnlessShort}
-use Rattle.sphericalpoint.specs.NearestRoot.{inUnits}
-use Rattle.sphericalpoint.proofs.sqrt.NearestLaw.{sqrt-nearest}
+use Rattle.square_root.specs.NearestRoot.{inUnits}
+use Rattle.square_root.proofs.NearestLaw.{sqrt-nearest}
 use Rattle.unit_length.specs.UnitPoint.{IsF64, InRange, Short, Long, squares, squareOfOne, Within, UnitPoint}
 use Rattle.unit_length.specs.UnitLaws.{NormalizedIsUnit, NormalizedTwiceIsUnit, VertexOnce, VertexTwice}
 use Rattle.unit_length.proofs.Assembly.{quotient-squared, all-over, all-under, total, within-cancel, within-49}

@@ -8,7 +8,7 @@ use lib.IntN.{negsuc}
 use lib.Dec.{lit≤}
 use lib.Ieee.{fin, fits, lt, add, mul, div}
 use Rattle.sphericalpoint.specs.declared.SphericalPoint.{SphericalPoint}
-use Rattle.sphericalpoint.specs.Sqrt.{sqrtOf}
+use Rattle.square_root.specs.Sqrt.{sqrtOf}
 use Rattle.sphericalpoint.specs.Vector.{equalityTolerance, xyzMul, xyzDiv, xyzSum, xyzLength, normalized}
 use Rattle.unit_length.specs.UnitPoint.{squares, squareOfOne, Within}
 use Rattle.unit_length.specs.UnitLaws.{TooLittle, NormalizedSharp, NormalizedTwiceSharp}

@@ -5,7 +5,7 @@ use lib.Dec.{T}
 use lib.Ieee.{binary64, fits, lt}
 use Rattle.ieee754.specs.Bound.{AtMost}
 use Rattle.sphericalpoint.specs.declared.SphericalPoint.{SphericalPoint}
-use Rattle.sphericalpoint.specs.NearestRoot.{inUnits}
+use Rattle.square_root.specs.NearestRoot.{inUnits}
 use Rattle.sphericalpoint.specs.Vector.{equalityTolerance, xyzLength}
 
 -- each coordinate is an `f64`: a float that the format holds, and not any number with more digits

@@ -9,9 +9,13 @@ use borrow.Author.Needs.{needs}
 use Rattle.legcount.proofs.main.Statement.{statement}
 use Rattle.legcount.proofs.main.Tie as tie
 
+-- the reading and counting, from what it said
+abbrev counted : tie.After-said → tie.After-read-and-count
+counted n = n .before .before .before
+
 -- what there is to print
-to-print : (n : tie.After-said) → PrintsWhole (S.Text (n .said .given .0 .0)) (n .before .before .before .read-and-count .last .0)
-to-print n = let r = n .before .before .before .read-and-count in subst (λ (s : Said). PrintsWhole s (r .last .0)) (n .said .given .1) (r .ensures)
+to-print : (n : tie.After-said) → PrintsWhole (S.Text (n .said .given .0 .0)) (counted n .read-and-count .last .0)
+to-print n = let r = counted n .read-and-count in subst (λ (s : Said). PrintsWhole s (r .last .0)) (n .said .given .1) (r .ensures)
 
 slice-aggregate-read-and-count : tie.Need-slice-aggregate-read-and-count
 slice-aggregate-read-and-count c = search needs
@@ -23,12 +27,10 @@ enum-known-said : tie.Need-enum-known-said
 enum-known-said c = search needs
 
 array-share-prefix-out : tie.Need-array-share-prefix-out
-array-share-prefix-out c = let r = c .before .before .before .before .read-and-count in
-    let few = to-print (c .before) .1 in
-    omega (arith, r .kept .0)
+array-share-prefix-out c = let few = to-print (c .before) .1 in omega (arith, counted (c .before) .read-and-count .kept .0)
 
 slice-aggregate-write-all : tie.Need-slice-aggregate-write-all
-slice-aggregate-write-all c = sym (length-take-le _ (c .before .before .before .before .before .read-and-count .last .0) (array-share-prefix-out (c .before)))
+slice-aggregate-write-all c = sym (length-take-le _ (counted (c .before .before) .read-and-count .last .0) (array-share-prefix-out (c .before)))
 
 write-all-requires : tie.Need-write-all-requires
 write-all-requires c κs = search needs

@@ -5,7 +5,8 @@ use native.Mathlib.Omega.{arith}
 use lib.ListN.{length}
 use mir.Syntax.{w64}
 use mir.Val.{SFits}
-use Rattle.textform.specs.Pieces.{ReadInPieces}
+use Rattle.textform.specs.Kept.{floatsKept}
+use Rattle.textform.specs.Pieces.{mostRead, ReadInPieces}
 use Rattle.textform.proofs.Pieces.{no-pieces, one-more, none-more}
 use Rattle.legcount.proofs.Answers.{at-end, nothing-read, some-read}
 use borrow.Author.Needs.{needs}
@@ -13,24 +14,32 @@ use Rattle.legcount.proofs.read_all.Statement.{statement}
 use Rattle.legcount.proofs.read_all.Tie as tie
 
 abbrev Inv-loop : tie.InvT-loop
-Inv-loop a₀ b₀ bytes₀ reader₀ turns₀ a b bytes reader turns = ReadInPieces reader a b × (length a ≡ 3075) × (length b ≡ 3075) × (length bytes ≡ 4096)
+Inv-loop a₀ b₀ bytes₀ reader₀ turns₀ a b bytes reader turns =
+    ReadInPieces reader a b × (length a ≡ floatsKept) × (length b ≡ floatsKept) × (length bytes ≡ mostRead)
 
 abbrev μ-loop : tie.MeasureT-loop
 μ-loop a₀ b₀ bytes₀ reader₀ turns₀ a b bytes reader turns = turns
 
--- the start, from a read in the loop
-abbrev started : tie.After-read-some Inv-loop μ-loop → tie.Start Inv-loop μ-loop
-started f = f .before .before .before .before .before .before .before .before .before .before
+-- the start, from the loop; the loop, from a read in it; and the read, from what it answered
+abbrev start : tie.At-loop Inv-loop μ-loop → tie.Start Inv-loop μ-loop
+start l = l .before .before .before .before .before
+
+abbrev at-loop : tie.After-read-some Inv-loop μ-loop → tie.At-loop Inv-loop μ-loop
+at-loop f = f .before .before .before .before .before
+
+abbrev read : tie.After-struct-told Inv-loop μ-loop → tie.After-read-some Inv-loop μ-loop
+read t = t .before .before .before .before .before .before
 
 -- the two lists after a read, each as long as the one that came
-first-length : (f : tie.After-read-some Inv-loop μ-loop) → length (f .read-some .last .1 .1 .0) ≡ 3075
-first-length f = f .read-some .kept .1 .1 .0 ∙ f .before .before .before .before .before .loop .inv .1
+module _ (f : tie.After-read-some Inv-loop μ-loop) where
+  first-length : length (f .read-some .last .1 .1 .0) ≡ floatsKept
+  first-length = f .read-some .kept .1 .1 .0 ∙ at-loop f .loop .inv .1
 
-second-length : (f : tie.After-read-some Inv-loop μ-loop) → length (f .read-some .last .1 .1 .1 .0) ≡ 3075
-second-length f = f .read-some .kept .1 .1 .1 .0 ∙ f .before .before .before .before .before .loop .inv .2
+  second-length : length (f .read-some .last .1 .1 .1 .0) ≡ floatsKept
+  second-length = f .read-some .kept .1 .1 .1 .0 ∙ at-loop f .loop .inv .2
 
 -- what the read answered is a number of 64 bits
-answer-fits : (t : tie.After-struct-told Inv-loop μ-loop) → SFits w64 (t .before .before .before .before .before .before .read-some .result .got)
+answer-fits : (t : tie.After-struct-told Inv-loop μ-loop) → SFits w64 (read t .read-some .result .got)
 answer-fits t = record { sfits = t .struct-told .given .1 .0 .1 }
 
 buffer-requires : tie.Need-buffer-requires Inv-loop μ-loop
@@ -40,7 +49,8 @@ begin-requires : tie.Need-begin-requires Inv-loop μ-loop
 begin-requires c κs = search needs
 
 loop-holds : tie.Need-loop-holds Inv-loop μ-loop
-loop-holds c = let s = c .before .before .before .before in
+loop-holds c =
+    let s = c .before .before .before .before in
     let e = c .begin .ensures in
     (no-pieces (c .begin .result) (s .args .a .now) (s .args .b .now) (e .0) (e .1) (e .2) (e .3), s .pre .0, s .pre .1, sym (c .before .buffer .ensures))
 
@@ -51,29 +61,25 @@ read-some-requires : tie.Need-read-some-requires Inv-loop μ-loop
 read-some-requires c κs = let v = c .before .before .before .before .loop .inv in (v .0 .sound, v .1, v .2)
 
 same-length : tie.Need-same-length Inv-loop μ-loop
-same-length c = let f = c .before .before .before .before .before .before .before in
-    first-length f ∙ sym (started f .pre .0)
+same-length c = let f = read (c .before) in first-length f ∙ sym (start (at-loop f) .pre .0)
 
 same-length-2 : tie.Need-same-length-2 Inv-loop μ-loop
-same-length-2 c = let f = c .before .before .before .before .before .before .before in
-    second-length f ∙ sym (started f .pre .1)
+same-length-2 c = let f = read (c .before) in second-length f ∙ sym (start (at-loop f) .pre .1)
 
 returns : tie.Need-returns Inv-loop μ-loop
-returns c = let f = c .before .before .before .before .before .before .before in
-    let d = f .before .before .before .before .before .loop in
-    let t = f .read-some in
+returns c =
+    let t = read (c .before) .read-some in
+    let d = at-loop (read (c .before)) .loop in
     let fits = answer-fits (c .before) in
     let none = nothing-read (t .result .got) fits (length (d .bytes)) (t .last .1 .0) (c .if1 .taken) in
     let all = none-more (d .reader) (t .result .reader) (d .a) (d .b) _ _ _ (d .inv .0) (t .ensures .0) (t .ensures .1) none in
     (at-end (t .result .got) fits (c .if1 .taken), all)
 
 same-length-3 : tie.Need-same-length-3 Inv-loop μ-loop
-same-length-3 c = let f = c .before .before .before .before .before .before .before .before in
-    first-length f ∙ sym (started f .pre .0)
+same-length-3 c = let f = read (c .before .before) in first-length f ∙ sym (start (at-loop f) .pre .0)
 
 same-length-4 : tie.Need-same-length-4 Inv-loop μ-loop
-same-length-4 c = let f = c .before .before .before .before .before .before .before .before in
-    second-length f ∙ sym (started f .pre .1)
+same-length-4 c = let f = read (c .before .before) in second-length f ∙ sym (start (at-loop f) .pre .1)
 
 returns-2 : tie.Need-returns-2 Inv-loop μ-loop
 returns-2 c = search needs
@@ -85,19 +91,21 @@ loop-less : tie.Need-loop-less Inv-loop μ-loop
 loop-less c = omega arith
 
 loop-again : tie.Need-loop-again Inv-loop μ-loop
-loop-again c = let f = c .before .before .before .before .before .before .before .before .before in
-    let d = f .before .before .before .before .before .loop in
+loop-again c =
+    let more = c .before .before in
+    let f = read (more .before) in
     let t = f .read-some in
-    let e = c .before .before in
+    let d = at-loop f .loop in
     let l = t .kept .1 .0 ∙ d .inv .3 in
-    let size = some-read (t .result .got) (answer-fits (e .before)) (length (d .bytes)) (t .last .1 .0) (e .if1 .left) (c .before .if2 .left) (d .inv .3) l in
+    let fits = answer-fits (more .before) in
+    let size = some-read (t .result .got) fits (length (d .bytes)) (t .last .1 .0) (more .if1 .left) (c .before .if2 .left) (d .inv .3) l in
     (one-more (d .reader) (t .result .reader) (d .a) (d .b) _ _ _ (d .inv .0) (t .ensures .0) (t .ensures .1) size, first-length f, second-length f, l)
 
 same-length-5 : tie.Need-same-length-5 Inv-loop μ-loop
-same-length-5 c = c .before .loop .inv .1 ∙ sym (c .before .before .before .before .before .before .pre .0)
+same-length-5 c = c .before .loop .inv .1 ∙ sym (start (c .before) .pre .0)
 
 same-length-6 : tie.Need-same-length-6 Inv-loop μ-loop
-same-length-6 c = c .before .loop .inv .2 ∙ sym (c .before .before .before .before .before .before .pre .1)
+same-length-6 c = c .before .loop .inv .2 ∙ sym (start (c .before) .pre .1)
 
 returns-3 : tie.Need-returns-3 Inv-loop μ-loop
 returns-3 c = search needs

@@ -8,12 +8,13 @@ use borrow.Author.Needs.{needs}
 use Rattle.legcount.proofs.read_and_count.Statement.{statement}
 use Rattle.legcount.proofs.read_and_count.Tie as tie
 
+-- the reading, from the input that it answered
+abbrev read : tie.After-input → tie.After-read-all
+read n = n .before .before .before .before
+
 -- what was read, where it is the whole input
-read-whole : (n : tie.After-input)
-    → (let r = n .before .before .before .before .read-all in HeldWhole (I.Whole (n .input .given .0 .0)) (r .last .0) (r .last .1 .0))
-read-whole n =
-    let r = n .before .before .before .before .read-all in
-    subst (λ (i : Input). HeldWhole i (r .last .0) (r .last .1 .0)) (n .input .given .1) (r .ensures)
+read-whole : (n : tie.After-input) → (let r = read n .read-all in HeldWhole (I.Whole (n .input .given .0 .0)) (r .last .0) (r .last .1 .0))
+read-whole n = let r = read n .read-all in subst (λ (i : Input). HeldWhole i (r .last .0) (r .last .1 .0)) (n .input .given .1) (r .ensures)
 
 slice-aggregate-read-all : tie.Need-slice-aggregate-read-all
 slice-aggregate-read-all c = search needs
@@ -34,9 +35,11 @@ slice-aggregate-conclude-2 : tie.Need-slice-aggregate-conclude-2
 slice-aggregate-conclude-2 c = search needs
 
 conclude-requires : tie.Need-conclude-requires
-conclude-requires c κs = let n = c .before .before .before .before in
-    let r = n .before .before .before .before .read-all in
-    (read-whole n .1 .sound, r .kept .0, r .kept .1 .0, c .before .before .before .before .before .before .before .before .before .before .before .before .pre)
+conclude-requires c κs =
+    let n = c .before .before .before .before in
+    let start = read n .before .before .before .before in
+    let r = read n .read-all in
+    (read-whole n .1 .sound, r .kept .0, r .kept .1 .0, start .pre)
 
 enum-told : tie.Need-enum-told
 enum-told c = search needs
@@ -45,10 +48,12 @@ same-length : tie.Need-same-length
 same-length c = search needs
 
 returns : tie.Need-returns
-returns c = let p = c .before .before in
+returns c =
+    let p = c .before .before in
     let n = p .before .before .before .before .before in
-    let r = n .before .before .before .before .read-all in
-    (read-and-printed (n .input .given .0 .0 .reader) (r .last .0) (r .last .1 .0) _ (read-whole n .1) (p .conclude .ensures .0), p .conclude .ensures .1)
+    let r = read n .read-all in
+    let said = p .conclude .ensures in
+    (read-and-printed (n .input .given .0 .0 .reader) (r .last .0) (r .last .1 .0) _ (read-whole n .1) (said .0), said .1)
 
 returns-2 : tie.Need-returns-2
 returns-2 c = search needs

@@ -33,7 +33,8 @@ same-length-3 : tie.Need-same-length-3
 same-length-3 c = search needs
 
 returns : tie.Need-returns
-returns c = let f = c .before .before .before .before in
+returns c =
+    let f = c .before .before .before .before in
     let n = f .before .before .before .before in
     let r = n .before .before .before .before .read in
     let got = toZ w64 (ofZ w64 (r .result)) in

@@ -1,15 +1,20 @@
 -- `show_long` makes an input of n rows and what comes after them, within its buffer, and shows it. Assumes nothing.
 use mathlib.Core.Path.{_≡_, sym, _∙_}
-use Prim.Native.Nat.{_+_, _*_, _-_, _≤_}
+use Prim.Native.Nat.{ℕ, _+_, _*_, _-_, _≤_}
 use native.Mathlib.Omega.{arith}
 use lib.ListN.{length}
 use lib.Seq.{length-take-le}
 use borrow.Author.Needs.{needs}
+use Rattle.textform.specs.Text.{rowStart, rowBytes}
 use Rattle.legcount_cases.proofs.show_long.Statement.{statement}
 use Rattle.legcount_cases.proofs.show_long.Tie as tie
 
+-- the bytes of the input's buffer
+abbrev largeBuffer : ℕ
+largeBuffer = 65536
+
 abbrev Inv-loop : tie.InvT-loop
-Inv-loop n rest input₀ at₀ k₀ t7 input at k = (length input ≡ 65536) × (at ≡ 13 + 53 * k) × (k ≤ n)
+Inv-loop n rest input₀ at₀ k₀ t7 input at k = (length input ≡ largeBuffer) × (at ≡ rowStart + rowBytes * k) × (k ≤ n)
 
 abbrev μ-loop : tie.MeasureT-loop
 μ-loop n rest input₀ at₀ k₀ t7 input at k = n - k

@@ -5,8 +5,8 @@ use borrow.Author.Needs.{needs}
 use Rattle.sphericalpoint.proofs.normalize_unless_short.Statement.{statement}
 use Rattle.sphericalpoint.proofs.normalize_unless_short.Tie as tie
 
-length-of-requires : tie.Need-length-of-requires
-length-of-requires c κs = search needs
+root-of-squares-requires : tie.Need-root-of-squares-requires
+root-of-squares-requires c κs = search needs
 
 xyz-div-f64-requires : tie.Need-xyz-div-f64-requires
 xyz-div-f64-requires c κs = search needs
@@ -19,4 +19,4 @@ returns-2 c = cc (long-divided (c .before .before .before .args .xyz) (cc equali
 
 pub normalize-unless-short-spec : {M : Type 1} → statement M
 normalize-unless-short-spec =
-    tie.close (tie.spec length-of-requires xyz-div-f64-requires returns returns-2)
+    tie.close (tie.spec root-of-squares-requires xyz-div-f64-requires returns returns-2)

@@ -26,13 +26,13 @@ returns-2 c =
     let normal = c .before .before .before .before .xyz-cross in
     outside _ _ _ (normal .result) _ (normal .ensures) refl (sym (c .before .between-ends .ensures) ∙ not-so _ (c .if2 .taken))
 
-length-of-requires : tie.Need-length-of-requires
-length-of-requires c κs = search needs
+root-of-squares-requires : tie.Need-root-of-squares-requires
+root-of-squares-requires c κs = search needs
 
 returns-3 : tie.Need-returns-3
 returns-3 c =
     let normal = c .before .before .before .before .before .before .xyz-cross in
-    let length = c .before .length-of in
+    let length = c .before .root-of-squares in
     no-plane _ _ _ (normal .result) (length .result) (normal .ensures) (length .ensures) (ap (lt (length .result)) (sym coplanar-bits) ∙ c .if3 .taken)
 
 between-in-plane-requires : tie.Need-between-in-plane-requires
@@ -41,7 +41,7 @@ between-in-plane-requires c κs = search needs
 returns-4 : tie.Need-returns-4
 returns-4 c =
     let normal = c .before .before .before .before .before .before .before .xyz-cross in
-    let length = c .before .before .length-of in
+    let length = c .before .before .root-of-squares in
     in-plane _ _ _ (normal .result) (length .result) (normal .ensures) (length .ensures) _ (c .between-in-plane .ensures)
     (ap (lt (length .result)) (sym coplanar-bits) ∙ c .before .if3 .left)
 
@@ -54,7 +54,7 @@ on-leg-spec =
     returns
     between-ends-requires
     returns-2
-    length-of-requires
+    root-of-squares-requires
     returns-3
     between-in-plane-requires
     returns-4)

@@ -1,10 +1,10 @@
 -- `point::point_from` refuses as its check does, and else answers as the vector layer does. Assumes nothing.
-use mathlib.Core.Path.{_∙_, sym, ap}
-use Rattle.arcstring.specs.Answer.{answered}
-use Rattle.arcstring.specs.Check.{pointCheck}
+use mathlib.Core.Path.{_∙_, ap}
+use Rattle.arcstring_check.specs.Answer.{answered}
+use Rattle.arcstring_check.specs.Check.{pointCheck}
 use Rattle.sphericalpoint.specs.Point.{pointFrom}
 use Rattle.arcstring.specs.Point.{builtPoint}
-use Rattle.arcstring.proofs.Answers.{answer-refused, answer-accepted}
+use Rattle.arcstring_check.proofs.Answers.{answer-refused, answer-accepted}
 use borrow.Author.Needs.{needs}
 use Rattle.arcstring.proofs.point.point_from.Statement.{statement}
 use Rattle.arcstring.proofs.point.point_from.Tie as tie

@@ -1,9 +1,10 @@
 -- `point::xyz_eq` refuses as its checks do, and else answers as the vector layer does. Assumes nothing.
+use mathlib.Core.List.{[], _∷_}
 use mathlib.Core.Path.{ap, _∙_}
-use Rattle.arcstring.specs.Answer.{answered}
-use Rattle.arcstring.specs.Check.{pointCheck}
+use Rattle.arcstring_check.specs.Answer.{answered}
+use Rattle.arcstring_check.specs.Check.{pointCheck}
 use Rattle.arcstring.specs.Point.{equalPoints}
-use Rattle.arcstring.proofs.Answers.{answer-refused-first, answer-accepted-first, both-numbers}
+use Rattle.arcstring_check.proofs.Answers.{refused-in-turn, accepted-in-turn, both-numbers}
 use borrow.Author.Needs.{needs}
 use Rattle.arcstring.proofs.point.xyz_eq.Statement.{statement}
 use Rattle.arcstring.proofs.point.xyz_eq.Tie as tie
@@ -30,13 +31,15 @@ returns : tie.Need-returns
 unfolding equalPoints
 returns c = let d = c .before in
     let f = d .before .before in
-    answer-refused-first _ _ (pointCheck _) (pointCheck _) _ (d .checked .given .1) (f .first-of .ensures ∙ both-numbers (f .before .before .check-point .ensures) (f .before .check-point2 .ensures))
+    refused-in-turn _ _ (pointCheck _) (pointCheck _ ∷ []) _ (d .checked .given .1)
+    (f .first-of .ensures ∙ both-numbers (f .before .before .check-point .ensures) (f .before .check-point2 .ensures))
 
 returns-2 : tie.Need-returns-2
 unfolding equalPoints
 returns-2 c = let d = c .before .before .before in
     ap answered (c .xyz-eq .ensures)
-    ∙ answer-accepted-first _ (pointCheck _) (pointCheck _) _ (c .before .enum-told .given .1) (d .first-of .ensures ∙ both-numbers (d .before .before .check-point .ensures) (d .before .check-point2 .ensures))
+    ∙ accepted-in-turn _ (pointCheck _) (pointCheck _ ∷ []) _ (c .before .enum-told .given .1)
+    (d .first-of .ensures ∙ both-numbers (d .before .before .check-point .ensures) (d .before .check-point2 .ensures))
 
 pub xyz-eq-spec : {M : Type 1} → statement M
 xyz-eq-spec =

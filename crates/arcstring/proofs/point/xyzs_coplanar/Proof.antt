@@ -1,9 +1,10 @@
 -- `point::xyzs_coplanar` refuses as its checks do, and else answers as the vector layer does. Assumes nothing.
-use mathlib.Core.Path.{ap, _∙_}
-use Rattle.arcstring.specs.Answer.{answered}
-use Rattle.arcstring.specs.Check.{pointCheck}
+use mathlib.Core.List.{[], _∷_}
+use mathlib.Core.Path.{_≡_, ap, _∙_}
+use Rattle.arcstring_check.specs.Answer.{answered, firstOf}
+use Rattle.arcstring_check.specs.Check.{checkNumber, pointCheck}
 use Rattle.arcstring.specs.Point.{coplanarPoints}
-use Rattle.arcstring.proofs.Answers.{answer-refused-in-three, answer-accepted-in-three, both-numbers}
+use Rattle.arcstring_check.proofs.Answers.{refused-in-turn, accepted-in-turn, both-numbers}
 use borrow.Author.Needs.{needs}
 use Rattle.arcstring.proofs.point.xyzs_coplanar.Statement.{statement}
 use Rattle.arcstring.proofs.point.xyzs_coplanar.Tie as tie
@@ -32,17 +33,24 @@ enum-told c = search needs
 xyzs-coplanar-requires : tie.Need-xyzs-coplanar-requires
 xyzs-coplanar-requires c κs = search needs
 
+-- the three checks
+number : (f : tie.After-first-of2) → let s = f .before .before .before .before .before in
+    checkNumber (f .first-of2 .result) ≡ firstOf (pointCheck (s .args .a)) (firstOf (pointCheck (s .args .b)) (pointCheck (s .args .c)))
+number f =
+    let third = f .before .before in
+    let second = third .before in
+    f .first-of2 .ensures
+    ∙ both-numbers (second .before .check-point .ensures)
+    (f .before .first-of .ensures ∙ both-numbers (second .check-point2 .ensures) (third .check-point3 .ensures))
+
 returns : tie.Need-returns
 unfolding coplanarPoints
-returns c = let d = c .before in
-    let f = d .before .before in
-    answer-refused-in-three _ _ (pointCheck _) (pointCheck _) (pointCheck _) _ (d .checked .given .1) (f .first-of2 .ensures ∙ both-numbers (f .before .before .before .before .check-point .ensures) (f .before .first-of .ensures ∙ both-numbers (f .before .before .before .check-point2 .ensures) (f .before .before .check-point3 .ensures)))
+returns c = refused-in-turn _ _ (pointCheck _) (pointCheck _ ∷ pointCheck _ ∷ []) _ (c .before .checked .given .1) (number (c .before .before .before))
 
 returns-2 : tie.Need-returns-2
 unfolding coplanarPoints
-returns-2 c = let f = c .before .before .before in
-    ap answered (c .xyzs-coplanar .ensures)
-    ∙ answer-accepted-in-three _ (pointCheck _) (pointCheck _) (pointCheck _) _ (c .before .enum-told .given .1) (f .first-of2 .ensures ∙ both-numbers (f .before .before .before .before .check-point .ensures) (f .before .first-of .ensures ∙ both-numbers (f .before .before .before .check-point2 .ensures) (f .before .before .check-point3 .ensures)))
+returns-2 c = ap answered (c .xyzs-coplanar .ensures)
+    ∙ accepted-in-turn _ (pointCheck _) (pointCheck _ ∷ pointCheck _ ∷ []) _ (c .before .enum-told .given .1) (number (c .before .before .before))
 
 pub xyzs-coplanar-spec : {M : Type 1} → statement M
 xyzs-coplanar-spec =

@@ -1,8 +1,9 @@
 -- `point_is_along_arcstring` refuses as its checks do, and else answers whether the point is along the string. Assumes nothing.
-use mathlib.Core.Path.{ap, _∙_}
-use Rattle.arcstring.specs.Answer.{answered}
-use Rattle.arcstring.specs.Check.{storedCheck, pointCheck}
-use Rattle.arcstring.proofs.Answers.{answer-refused-in-three, answer-accepted-in-three, passed-in-three, both-numbers}
+use mathlib.Core.List.{[], _∷_}
+use mathlib.Core.Path.{_≡_, ap, _∙_}
+use Rattle.arcstring_check.specs.Answer.{answered, firstOf}
+use Rattle.arcstring_check.specs.Check.{checkNumber, storedCheck, pointCheck}
+use Rattle.arcstring_check.proofs.Answers.{refused-in-turn, accepted-in-turn, passed-in-turn, both-numbers}
 use Rattle.arcstring_along.specs.OnString.{along}
 use borrow.Author.Needs.{needs}
 use Rattle.arcstring_along.proofs.on_string.point_is_along_arcstring.Statement.{statement}
@@ -29,21 +30,30 @@ enum-known-checked c = search needs
 enum-told : tie.Need-enum-told
 enum-told c = search needs
 
+-- the three checks
+number : (f : tie.After-first-of2) → let s = f .before .before .before .before .before .before .before in
+    checkNumber (f .first-of2 .result)
+    ≡ firstOf (storedCheck (s .args .v .now)) (firstOf (storedCheck (s .args .near .now)) (pointCheck (s .args .p)))
+number f =
+    let point = f .before .before in
+    let near = point .before in
+    f .first-of2 .ensures
+    ∙ both-numbers (near .before .check-stored .ensures)
+    (f .before .first-of .ensures ∙ both-numbers (near .check-stored2 .ensures) (point .check-point .ensures))
+
 along-string-requires : tie.Need-along-string-requires
-along-string-requires c κs = let f = c .before .before in
-    let passed = passed-in-three _ (storedCheck _) (storedCheck _) (pointCheck _) (c .enum-told .given .1) (f .first-of2 .ensures ∙ both-numbers (f .before .before .before .before .check-stored .ensures) (f .before .first-of .ensures ∙ both-numbers (f .before .before .before .check-stored2 .ensures) (f .before .before .check-point .ensures))) in
-    (passed .0, passed .1)
+along-string-requires c κs =
+    let passed = passed-in-turn _ (storedCheck _) (storedCheck _ ∷ pointCheck _ ∷ []) (c .enum-told .given .1) (number (c .before .before)) in
+    (passed .0, passed .1 .0)
 
 returns : tie.Need-returns
 unfolding along
-returns c = let f = c .before .before .before in
-    answer-refused-in-three _ _ (storedCheck _) (storedCheck _) (pointCheck _) _ (c .before .checked .given .1) (f .first-of2 .ensures ∙ both-numbers (f .before .before .before .before .check-stored .ensures) (f .before .first-of .ensures ∙ both-numbers (f .before .before .before .check-stored2 .ensures) (f .before .before .check-point .ensures)))
+returns c = refused-in-turn _ _ (storedCheck _) (storedCheck _ ∷ pointCheck _ ∷ []) _ (c .before .checked .given .1) (number (c .before .before .before))
 
 returns-2 : tie.Need-returns-2
 unfolding along
-returns-2 c = let f = c .before .before .before in
-    ap answered (c .along-string .ensures)
-    ∙ answer-accepted-in-three _ (storedCheck _) (storedCheck _) (pointCheck _) _ (c .before .enum-told .given .1) (f .first-of2 .ensures ∙ both-numbers (f .before .before .before .before .check-stored .ensures) (f .before .first-of .ensures ∙ both-numbers (f .before .before .before .check-stored2 .ensures) (f .before .before .check-point .ensures)))
+returns-2 c = ap answered (c .along-string .ensures)
+    ∙ accepted-in-turn _ (storedCheck _) (storedCheck _ ∷ pointCheck _ ∷ []) _ (c .before .enum-told .given .1) (number (c .before .before .before))
 
 pub point-is-along-arcstring-spec : {M : Type 1} → statement M
 point-is-along-arcstring-spec =

@@ -1,9 +1,11 @@
 -- A refusal of the first leg, then of the second, else the class of the pair. Assumes nothing.
+use mathlib.Core.List.{[], _∷_}
 use mathlib.Core.Path.{ap, _∙_}
-use Rattle.arcstring.specs.Answer.{answered}
-use Rattle.arcstring.proofs.Answers.{answer-refused-first, answer-accepted-first, both-numbers}
-use Rattle.arcstring_crossing.specs.declared.crossing.Pair.{Pair}
-use Rattle.arcstring_crossing.specs.Crossing.{judged, legCheck, arcsCrossing}
+use Rattle.arcstring_check.specs.Answer.{answered}
+use Rattle.arcstring_check.proofs.Answers.{refused-in-turn, accepted-in-turn, both-numbers}
+use Rattle.arcstring_pair.specs.declared.pair.Pair.{Pair}
+use Rattle.arcstring_pair.specs.Pair.{judged, arcsCrossing}
+use Rattle.arcstring.specs.Leg.{legCheck}
 use Rattle.arcstring_crossing.proofs.crossing.arcs_crossing.Statement.{statement}
 use Rattle.arcstring_crossing.proofs.crossing.arcs_crossing.Tie as tie
 
@@ -28,12 +30,14 @@ pair-of-requires c κs = tt
 returns : tie.Need-returns
 unfolding arcsCrossing
 returns c = let f = c .before .before .before in
-    answer-refused-first _ _ (legCheck _) (legCheck _) _ (c .before .checked .given .1) (f .first-of .ensures ∙ both-numbers (f .before .before .check-leg .ensures) (f .before .check-leg2 .ensures))
+    refused-in-turn _ _ (legCheck _) (legCheck _ ∷ []) _ (c .before .checked .given .1)
+    (f .first-of .ensures ∙ both-numbers (f .before .before .check-leg .ensures) (f .before .check-leg2 .ensures))
 
 returns-2 : tie.Need-returns-2
 unfolding arcsCrossing
 returns-2 c = let f = c .before .before .before in
-    ap (λ (p : Pair). answered (judged p)) (c .pair-of .ensures) ∙ answer-accepted-first _ (legCheck _) (legCheck _) _ (c .before .enum-told .given .1) (f .first-of .ensures ∙ both-numbers (f .before .before .check-leg .ensures) (f .before .check-leg2 .ensures))
+    ap (λ (p : Pair). answered (judged p)) (c .pair-of .ensures) ∙ accepted-in-turn _ (legCheck _) (legCheck _ ∷ []) _ (c .before .enum-told .given .1)
+    (f .first-of .ensures ∙ both-numbers (f .before .before .check-leg .ensures) (f .before .check-leg2 .ensures))
 
 pub arcs-crossing-spec : {M : Type 1} → statement M
 arcs-crossing-spec =

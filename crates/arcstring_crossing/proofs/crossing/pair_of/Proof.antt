@@ -1,9 +1,7 @@
 -- The class of a pair of legs that are arrays, by the test that the walk makes. Assumes nothing.
 use native.Mathlib.Omega.{arith}
-use mathlib.Core.Path.{_∙_, ap₂}
-use Rattle.arcstring_crossing.specs.Crossing.{pairOf}
-use Rattle.arcstring_crossing.proofs.Classes.{plane-leg, plane-again}
-use Rattle.arcstring_crossing.proofs.Legs.{leg-as}
+use Rattle.arcstring_crossing.proofs.KeptPlanes.{pair-with}
+use Rattle.arcstring.proofs.Legs.{leg-as}
 use borrow.Author.Needs.{needs}
 use Rattle.arcstring_crossing.proofs.crossing.pair_of.Statement.{statement}
 use Rattle.arcstring_crossing.proofs.crossing.pair_of.Tie as tie
@@ -31,10 +29,10 @@ slice-aggregate-pair-at-2 c = search needs
 
 pair-at-requires : tie.Need-pair-at-requires
 pair-at-requires c κs = let w = c .before .before .before .before .keep-planes .ensures in
-    ((search needs, omega arith, w .long, omega arith, w .narrow), (plane-again _ _ (c .before .before .plane-of .ensures), w .each 0 (omega arith)))
+    ((search needs, omega arith, w .long, omega arith, w .narrow), (c .before .before .plane-of .ensures, w .each 0 (omega arith)))
 
 returns : tie.Need-returns
-returns c = c .pair-at .ensures ∙ ap₂ pairOf (plane-leg _ _ (c .before .before .before .plane-of .ensures)) (leg-as _ _ (c .before .before .before .before .before .before .before .before .leg-string .ensures))
+returns c = pair-with _ _ _ _ (c .pair-at .ensures) (leg-as _ _ (c .before .before .before .before .before .before .before .before .leg-string .ensures))
 
 pub pair-of-spec : {M : Type 1} → statement M
 pair-of-spec =

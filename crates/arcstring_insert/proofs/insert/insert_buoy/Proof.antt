@@ -4,8 +4,7 @@ use Prim.Native.Nat.{_+_, _-_, _≤_}
 use native.Mathlib.Omega.{arith}
 use lib.ListN.{length, take, drop, length-set}
 use Rattle.arcstring.specs.Splice.{splice}
-use Rattle.arcstring_insert.proofs.Shifts.{put-before}
-use Rattle.arcstring_insert.proofs.Moved.{moved-none, moved-step}
+use Rattle.arcstring_insert.proofs.Moved.{moved-none, moved-step, put-before}
 use Rattle.arcstring_insert.proofs.insert.insert_buoy.Statement.{statement}
 use Rattle.arcstring_insert.proofs.insert.insert_buoy.Tie as tie
 
@@ -46,8 +45,7 @@ loop-again c = let d = c .before .before in
       omega arith,
       omega arith,
       simp length-set (d .loop .inv .2),
-      moved-step (a .buoys .now) _ (a .n) (d .loop .i) (omega arith) (omega arith)
-          (omega arith) (d .loop .inv .3),
+      moved-step (a .buoys .now) _ (a .n) (d .loop .i) (omega arith) (omega arith) (omega arith) (d .loop .inv .3),
     )
 
 mul-buoys-3 : tie.Need-mul-buoys-3 Inv-loop μ-loop

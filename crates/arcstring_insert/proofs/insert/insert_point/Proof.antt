@@ -6,28 +6,24 @@ use lib.ListN.{length}
 use lib.Seq.{length-take-le}
 use borrow.Author.Tests.{not-true, not-false}
 use Rattle.arcstring.specs.Points.{placeOf}
+use Rattle.arcstring_check.specs.Check.{mostPoints}
 use Rattle.arcstring_insert.specs.Insert.{insertPoint, insertWalk}
 use Rattle.arcstring_insert.proofs.Inserted.{firstVertices}
-use Rattle.arcstring_insert.proofs.InsertWalks.{
-  walk-begin,
-  walk-past,
-  walk-full,
-  walk-on,
-  walk-end,
-  leg-within,
-  past-numbers,
-  on-numbers,
-}
+use Rattle.arcstring_insert.proofs.InsertWalks.{walk-begin, walk-past, walk-full, walk-on, walk-end, leg-within, past-numbers, on-numbers}
 use Rattle.arcstring_insert.proofs.insert.insert_point.Statement.{statement}
 use Rattle.arcstring_insert.proofs.insert.insert_point.Tie as tie
 
 abbrev Inv-loop : tie.InvT-loop
 Inv-loop work₀ buoys₀ n closed x legs m₀ k₀ i₀ work buoys m k i =
-    (i ≤ legs) × (k + (legs - i) ≤ m) × (m ≤ 1024) × (length work ≡ length work₀) × (length buoys ≡ length buoys₀) ×
+    (i ≤ legs) × (k + (legs - i) ≤ m) × (m ≤ mostPoints) × (length work ≡ length work₀) × (length buoys ≡ length buoys₀) ×
     (insertWalk placeOf x k (legs - i) (firstVertices m work buoys) ≡ insertPoint placeOf closed x (firstVertices n work₀ buoys₀))
 
 abbrev μ-loop : tie.MeasureT-loop
 μ-loop work₀ buoys₀ n closed x legs m₀ k₀ i₀ work buoys m k i = legs - i
+
+-- the entry, from the loop
+abbrev entry : tie.At-loop Inv-loop μ-loop → tie.Start Inv-loop μ-loop
+entry c = c .before .before .before .before
 
 leg-count-requires : tie.Need-leg-count-requires Inv-loop μ-loop
 leg-count-requires c κs = omega arith
@@ -66,7 +62,7 @@ loop-less c = omega arith
 
 loop-again : tie.Need-loop-again Inv-loop μ-loop
 loop-again c = let d = c .before .before .before .before in
-    let s = d .before .before .before .before in
+    let s = entry d in
     let w = d .loop in
     let test = c .before .before .before .loop-test .taken in
     let wide = w .inv .3 ∙ s .pre .2 in
@@ -90,7 +86,7 @@ same-length-2 c = c .before .before .before .before .before .loop .inv .4
 
 returns : tie.Need-returns Inv-loop μ-loop
 returns c = let d = c .before .before .before .before .before in
-    let s = d .before .before .before .before in
+    let s = entry d in
     let w = d .loop in
     let test = c .before .before .before .before .loop-test .taken in
     let there = leg-within _ (w .i) (w .k) (w .m) _ _ test (w .inv .1) (w .inv .2) (w .inv .3 ∙ s .pre .2) (w .inv .4 ∙ s .pre .3) in (
@@ -117,7 +113,7 @@ loop-less-2 c = omega arith
 loop-again-2 : tie.Need-loop-again-2 Inv-loop μ-loop
 loop-again-2 c = let a = c .before .before .before .before .before .before .before .before in
     let d = a .before .before .before .before .before in
-    let s = d .before .before .before .before in
+    let s = entry d in
     let w = d .loop in
     let test = a .before .before .before .before .loop-test .taken in
     let put = c .before .before .before .before .before .before .insert-vertex in
@@ -143,7 +139,7 @@ same-length-4 c = c .before .loop .inv .4
 
 returns-2 : tie.Need-returns-2 Inv-loop μ-loop
 returns-2 c = let d = c .before in
-    let s = d .before .before .before .before in
+    let s = entry d in
     (walk-end (s .args .x) (d .loop .work) (d .loop .buoys) (d .loop .m) (d .loop .k) _ (d .loop .i) _ (d .loop .inv .5) (c .loop-test .left), d .loop .inv .2)
 
 pub insert-point-spec : {M : Type 1} → statement M

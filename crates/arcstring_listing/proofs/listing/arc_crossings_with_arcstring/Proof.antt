@@ -1,14 +1,14 @@
 -- A refusal of the leg, then of the string, else the listing of the leg's pairs: those of a string of two vertices. Assumes nothing.
 use mathlib.Core.Path.{_≡_, ap, _∙_}
-use mathlib.Core.List.{List}
-use Rattle.arcstring.specs.Answer.{firstOf}
-use Rattle.arcstring.specs.Check.{checkNumber, storedCheck}
-use Rattle.arcstring.proofs.Answers.{answer-refused-first, answer-accepted-first, both-numbers}
-use Rattle.arcstring_crossing.specs.declared.crossing.Pair.{Pair}
+use mathlib.Core.List.{List, [], _∷_}
+use Rattle.arcstring_check.specs.Answer.{firstOf}
+use Rattle.arcstring_check.specs.Check.{checkNumber, storedCheck}
+use Rattle.arcstring_check.proofs.Answers.{refused-in-turn, accepted-in-turn, both-numbers, passed-in-turn}
+use Rattle.arcstring_pair.specs.declared.pair.Pair.{Pair}
 use lib.ListN.{length}
-use Rattle.arcstring_crossing.specs.Crossing.{legOf, legCheck}
+use Rattle.arcstring.specs.Leg.{legOf, legCheck}
 use Rattle.arcstring_listing.specs.Listing.{listingOf, inRoom, legCrossings}
-use Rattle.arcstring_listing.proofs.Listings.{both-accepted, refused-leaves, leaves-as}
+use Rattle.arcstring_listing.proofs.Listings.{refused-leaves, leaves-as}
 use Rattle.arcstring_listing.proofs.Visits.{accepted-as, visits-as}
 use borrow.Author.Needs.{needs}
 use Rattle.arcstring_listing.proofs.listing.arc_crossings_with_arcstring.Statement.{statement}
@@ -23,7 +23,7 @@ number c = c .first-of .ensures ∙ both-numbers (c .before .before .check-leg .
 -- both accept, so what follows is the answer
 accepted : (c : tie.After-enum-told) → (legCheck (legOf (c .before .before .before .before .before .before .before .before .args .arc)) ≡ 0)
     × (storedCheck (c .before .before .before .before .before .before .before .before .args .v .now) ≡ 0)
-accepted c = both-accepted _ (legCheck _) (storedCheck _) (c .enum-told .given .1) (number (c .before .before))
+accepted c = passed-in-turn _ (legCheck _) (storedCheck _ ∷ []) (c .enum-told .given .1) (number (c .before .before))
 
 check-leg-requires : tie.Need-check-leg-requires
 check-leg-requires c κs = tt
@@ -39,7 +39,7 @@ enum-known-checked c = c .match .keys1
 
 returns : tie.Need-returns
 unfolding legCrossings
-returns c = refused-leaves _ _ _ _ (answer-refused-first _ _ (legCheck _) (storedCheck _) _ (c .before .checked .given .1) (number (c .before .before .before)))
+returns c = refused-leaves _ _ _ _ (refused-in-turn _ _ (legCheck _) (storedCheck _ ∷ []) _ (c .before .checked .given .1) (number (c .before .before .before)))
 
 enum-told : tie.Need-enum-told
 enum-told c = c .match .keys2
@@ -66,7 +66,7 @@ returns-2 c = let s = c .before .before .before .before .before .before .before 
     .before in
     let same = ap (λ (ps : List Pair). inRoom (listingOf ps) (length (s .args .points .now)) (length (s .args .marks .now)))
     (visits-as _ _ (c .before .before .before .before .before .before .before .before .leg-string .ensures) (s .args .v .now) (s .args .closed)) in
-    leaves-as _ _ _ _ _ _ _ (same ∙ answer-accepted-first _ (legCheck _) (storedCheck _) _
+    leaves-as _ _ _ _ _ _ _ (same ∙ accepted-in-turn _ (legCheck _) (storedCheck _ ∷ []) _
     (c .before .before .before .before .before .before .before .before .before .enum-told .given .1)
     (number (c .before .before .before .before .before .before .before .before .before .before .before)))
     (c .before .before .before .before .list-two .ensures)

@@ -1,6 +1,6 @@
 -- The room of the points is checked, then that of the marks. Assumes nothing.
 use mathlib.Core.Path.{_∙_}
-use Rattle.arcstring.proofs.Answers.{both-numbers}
+use Rattle.arcstring_check.proofs.Answers.{both-numbers}
 use borrow.Author.Needs.{needs}
 use Rattle.arcstring_listing.proofs.listing.check_buffers.Statement.{statement}
 use Rattle.arcstring_listing.proofs.listing.check_buffers.Tie as tie

@@ -1,25 +1,31 @@
 -- A refusal of the first string, then of the second, else the counts of all pairs. Assumes nothing.
+use mathlib.Core.List.{[], _∷_}
 use mathlib.Core.Path.{_≡_, ap, _∙_}
-use Rattle.arcstring.specs.Answer.{Answer, answered, unlessRefused, firstOf}
-use Rattle.arcstring.specs.Check.{checkNumber, storedCheck}
-use Rattle.arcstring.proofs.Answers.{answer-refused-first, answer-accepted-first, both-numbers}
-use Rattle.arcstring_listing.specs.declared.listing.Counts.{Counts}
+use Rattle.arcstring_check.specs.Answer.{Answer, answered, unlessRefused, firstOf}
+use Rattle.arcstring_check.specs.Check.{checkNumber, storedCheck}
+use Rattle.arcstring_check.proofs.Answers.{refused-in-turn, accepted-in-turn, both-numbers, passed-in-turn}
+use Rattle.arcstring_tally.specs.declared.counts.Counts.{Counts}
 use Rattle.arcstring_listing.specs.Listing.{counted}
-use Rattle.arcstring_listing.proofs.Listings.{both-accepted}
-use Rattle.arcstring_listing.proofs.Tallies.{tally-counts}
+use Rattle.arcstring_tally.proofs.Tallies.{tally-counts}
 use Rattle.arcstring_listing.proofs.listing.count.Statement.{statement}
 use Rattle.arcstring_listing.proofs.listing.count.Tie as tie
 
+abbrev start : tie.After-first-of → tie.Start
+start c = c .before .before .before .before .before
+
 -- the two checks
-number : (c : tie.After-first-of) → checkNumber (c .first-of .result) ≡ firstOf (storedCheck (c .before .before .before .before .before .args .a .now)) (storedCheck (c .before .before .before .before .before .args .b .now))
+number : (c : tie.After-first-of) → let s = start c in
+    checkNumber (c .first-of .result) ≡ firstOf (storedCheck (s .args .a .now)) (storedCheck (s .args .b .now))
 number c = c .first-of .ensures ∙ both-numbers (c .before .before .check-stored .ensures) (c .before .check-stored2 .ensures)
 
 -- both accept, so what follows is the answer
-accepted : (c : tie.After-enum-told) → (storedCheck (c .before .before .before .before .before .before .before .args .a .now) ≡ 0) × (storedCheck (c .before .before .before .before .before .before .before .args .b .now) ≡ 0)
-accepted c = both-accepted _ (storedCheck _) (storedCheck _) (c .enum-told .given .1) (number (c .before .before))
+accepted : (c : tie.After-enum-told) → let s = start (c .before .before) in
+    (storedCheck (s .args .a .now) ≡ 0) × (storedCheck (s .args .b .now) ≡ 0)
+accepted c = passed-in-turn _ (storedCheck _) (storedCheck _ ∷ []) (c .enum-told .given .1) (number (c .before .before))
 
-follows : (c : tie.After-enum-told) (x : Answer Counts) → x ≡ unlessRefused (storedCheck (c .before .before .before .before .before .before .before .args .a .now)) (unlessRefused (storedCheck (c .before .before .before .before .before .before .before .args .b .now)) x)
-follows c x = answer-accepted-first _ (storedCheck _) (storedCheck _) x (c .enum-told .given .1) (number (c .before .before))
+follows : (c : tie.After-enum-told) (x : Answer Counts) → let s = start (c .before .before) in
+    x ≡ unlessRefused (storedCheck (s .args .a .now)) (unlessRefused (storedCheck (s .args .b .now)) x)
+follows c x = accepted-in-turn _ (storedCheck _) (storedCheck _ ∷ []) x (c .enum-told .given .1) (number (c .before .before))
 
 check-stored-requires : tie.Need-check-stored-requires
 check-stored-requires c κs = tt
@@ -44,7 +50,7 @@ counts-of-requires c κs = tt
 
 returns : tie.Need-returns
 unfolding counted
-returns c = answer-refused-first _ _ (storedCheck _) (storedCheck _) _ (c .before .checked .given .1) (number (c .before .before .before))
+returns c = refused-in-turn _ _ (storedCheck _) (storedCheck _ ∷ []) _ (c .before .checked .given .1) (number (c .before .before .before))
 
 returns-2 : tie.Need-returns-2
 unfolding counted

@@ -3,12 +3,12 @@ use mathlib.Core.Path.{_≡_, sym, ap, ap₂, _∙_}
 use mathlib.Core.Bool.{Bool, _&&_}
 use Prim.Native.Nat.{ℕ}
 use lib.Dec.{leb, ltb}
-use Rattle.arcstring.specs.Answer.{Answer, answered, unlessRefused}
-use Rattle.arcstring.specs.Check.{checkNumber, storedCheck}
-use Rattle.arcstring.proofs.Answers.{answer-refused, answer-accepted}
+use Rattle.arcstring_check.specs.Answer.{Answer, answered, unlessRefused}
+use Rattle.arcstring_check.specs.Check.{checkNumber, storedCheck}
+use Rattle.arcstring_check.proofs.Answers.{answer-refused, answer-accepted}
 use Rattle.arcstring.proofs.Flat.{count-points}
 use Rattle.arcstring_listing.specs.Listing.{crossesSelf}
-use Rattle.arcstring_listing.proofs.Tallies.{tally-kept}
+use Rattle.arcstring_tally.proofs.Tallies.{tally-kept}
 use Rattle.arcstring_listing.proofs.listing.crosses_self.Statement.{statement}
 use Rattle.arcstring_listing.proofs.listing.crosses_self.Tie as tie
 
@@ -37,7 +37,8 @@ tally-self-requires c κs = accepted c
 
 returns-2 : tie.Need-returns-2
 unfolding crossesSelf
-returns-2 c = ap₂ (λ (n k : ℕ). answered (leb 4 n && ltb 0 k)) (sym (count-points (c .before .before .before .before .before .before .args .v .now))) (tally-kept _ _ (c .before .tally-self .ensures .0)) ∙ follows (c .before .before) _
+returns-2 c = ap₂ (λ (n k : ℕ). answered (leb 4 n && ltb 0 k)) (sym (count-points (c .before .before .before .before .before .before .args .v .now)))
+    (tally-kept _ _ (c .before .tally-self .ensures .0)) ∙ follows (c .before .before) _
 
 pub crosses-self-spec : {M : Type 1} → statement M
 crosses-self-spec =

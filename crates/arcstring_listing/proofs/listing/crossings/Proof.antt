@@ -1,10 +1,11 @@
 -- A refusal of the first string, then of the second, else the listing of all pairs. Assumes nothing.
+use mathlib.Core.List.{[], _∷_}
 use mathlib.Core.Path.{_≡_, _∙_}
-use Rattle.arcstring.specs.Answer.{firstOf}
-use Rattle.arcstring.specs.Check.{checkNumber, storedCheck}
-use Rattle.arcstring.proofs.Answers.{answer-refused-first, answer-accepted-first, both-numbers}
+use Rattle.arcstring_check.specs.Answer.{firstOf}
+use Rattle.arcstring_check.specs.Check.{checkNumber, storedCheck}
+use Rattle.arcstring_check.proofs.Answers.{refused-in-turn, accepted-in-turn, both-numbers, passed-in-turn}
 use Rattle.arcstring_listing.specs.Listing.{crossings}
-use Rattle.arcstring_listing.proofs.Listings.{both-accepted, refused-leaves, leaves-as}
+use Rattle.arcstring_listing.proofs.Listings.{refused-leaves, leaves-as}
 use Rattle.arcstring_listing.proofs.listing.crossings.Statement.{statement}
 use Rattle.arcstring_listing.proofs.listing.crossings.Tie as tie
 
@@ -28,14 +29,15 @@ enum-known-checked c = c .match .keys1
 
 returns : tie.Need-returns
 unfolding crossings
-returns c = refused-leaves _ _ _ _ (answer-refused-first _ _ (storedCheck _) (storedCheck _) _ (c .before .checked .given .1)
+returns c = refused-leaves _ _ _ _ (refused-in-turn _ _ (storedCheck _) (storedCheck _ ∷ []) _ (c .before .checked .given .1)
     (number (c .before .before .before)))
 
 enum-told : tie.Need-enum-told
 enum-told c = c .match .keys2
 
 list-two-requires : tie.Need-list-two-requires
-list-two-requires c κs = both-accepted _ (storedCheck _) (storedCheck _) (c .before .before .enum-told .given .1) (number (c .before .before .before .before))
+list-two-requires c κs = passed-in-turn _ (storedCheck _) (storedCheck _ ∷ []) (c .before .before .enum-told .given .1)
+    (number (c .before .before .before .before))
 
 same-length : tie.Need-same-length
 same-length c = c .before .before .before .before .list-two .kept .1 .1 .1 .1 .0
@@ -45,7 +47,7 @@ same-length-2 c = c .before .before .before .before .list-two .kept .1 .1 .1 .1 
 
 returns-2 : tie.Need-returns-2
 unfolding crossings
-returns-2 c = leaves-as _ _ _ _ _ _ _ (answer-accepted-first _ (storedCheck _) (storedCheck _) _
+returns-2 c = leaves-as _ _ _ _ _ _ _ (accepted-in-turn _ (storedCheck _) (storedCheck _ ∷ []) _
     (c .before .before .before .before .before .before .before .enum-told .given .1)
     (number (c .before .before .before .before .before .before .before .before .before))) (c .before .before .before .before .list-two .ensures)
 

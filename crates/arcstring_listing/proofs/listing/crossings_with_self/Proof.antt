@@ -1,22 +1,14 @@
 -- A refusal of the string, then for want of room, else the listing of its pairs with itself, its points normalised: by one walk where the buffers hold a
 -- point of every pair, else counted first. Assumes nothing.
 use mathlib.Core.Path.{_≡_, sym, ap, _∙_}
-use Rattle.arcstring.specs.Answer.{Answer, unlessRefused}
+use Rattle.arcstring_check.specs.Answer.{Answer, unlessRefused}
 use Rattle.arcstring.specs.Splice.{splice}
-use Rattle.arcstring.specs.Check.{checkNumber, storedCheck}
-use Rattle.arcstring.proofs.Answers.{answer-refused, answer-accepted}
+use Rattle.arcstring_check.specs.Check.{checkNumber, storedCheck}
+use Rattle.arcstring_check.proofs.Answers.{answer-refused, answer-accepted}
 use Rattle.arcstring_listing.specs.Listing.{Listing, selfCrossings}
-use Rattle.arcstring_listing.proofs.Listings.{
-  refused-leaves,
-  lists-normalized,
-  fitting-leaves,
-  normalized-points,
-  normalized-bytes,
-  no-room-leaves,
-  listing-leaves,
-  room-for-kept,
-}
-use Rattle.arcstring_listing.proofs.Tallies.{tally-kept}
+use Rattle.arcstring_listing.proofs.Listings.{refused-leaves, lists-normalized, fitting-leaves, normalized-points, normalized-bytes, no-room-leaves}
+use Rattle.arcstring_listing.proofs.Listings.{listing-leaves, room-for-kept}
+use Rattle.arcstring_tally.proofs.Tallies.{tally-kept}
 use Rattle.arcstring_listing.proofs.listing.crossings_with_self.Statement.{statement}
 use Rattle.arcstring_listing.proofs.listing.crossings_with_self.Tie as tie
 

@@ -3,16 +3,18 @@ use Prim.Native.Nat.{_*_, _≤_}
 use native.Mathlib.Nat.{le-trans}
 use borrow.Author.Tests.{leb-true}
 use lib.ListN.{length}
-use Rattle.arcstring.proofs.Checks.{stored-whole, stored-some}
-use Rattle.arcstring_crossing.proofs.Signs.{no}
-use Rattle.arcstring_listing.specs.Listing.{keptMarks, visited}
+use Rattle.ieee754.proofs.Tests.{never}
+use Rattle.arcstring_visit.specs.Visit.{mostPairs}
+use Rattle.arcstring_check.proofs.Checks.{stored-whole, stored-some}
+use Rattle.arcstring_tally.specs.Pairs.{keptMarks}
+use Rattle.arcstring_listing.specs.Listing.{visited}
 use Rattle.arcstring_listing.proofs.Bounds.{pairs-fit, points-fit, points-held}
-use Rattle.arcstring_listing.proofs.Rows.{product-small}
+use Rattle.arcstring_visit.proofs.Rows.{product-small}
 use Rattle.arcstring_listing.proofs.Visits.{kept-two}
 use Rattle.arcstring_listing.proofs.listing.holds_all.Statement.{statement}
 use Rattle.arcstring_listing.proofs.listing.holds_all.Tie as tie
 
-small : (c : tie.After-leg-count2) → (c .before .leg-count .result) * (c .leg-count2 .result) ≤ 1048576
+small : (c : tie.After-leg-count2) → (c .before .leg-count .result) * (c .leg-count2 .result) ≤ mostPairs
 small c = let p = c .before .before .before .before .pre in
     product-small _ _ (le-trans (c .before .leg-count .ensures .1) (stored-whole _ (p .0) .at-most))
     (le-trans (c .leg-count2 .ensures .1) (stored-whole _ (p .1) .at-most))
@@ -40,7 +42,7 @@ returns : tie.Need-returns
 returns c = λ e. let k = kept (c .before) in (points-held _ _ _ k (c .if1 .taken), le-trans k (leb-true _ _ e))
 
 returns-2 : tie.Need-returns-2
-returns-2 c = λ e. no e
+returns-2 c = λ e. never e
 
 pub holds-all-spec : {M : Type 1} → statement M
 holds-all-spec =

@@ -4,16 +4,17 @@ use native.Mathlib.Nat.{le-trans, sub-le}
 use native.Mathlib.Omega.{arith}
 use borrow.Author.Tests.{leb-true}
 use lib.ListN.{length}
-use Rattle.arcstring.proofs.Checks.{stored-whole}
-use Rattle.arcstring_crossing.proofs.Signs.{no}
+use Rattle.ieee754.proofs.Tests.{never}
+use Rattle.arcstring_visit.specs.Visit.{mostPairs}
+use Rattle.arcstring_check.proofs.Checks.{stored-whole}
 use Rattle.arcstring_listing.proofs.Bounds.{pairs-fit, half-points-fit, points-held, half-held}
-use Rattle.arcstring_listing.proofs.Rows.{product-small}
+use Rattle.arcstring_visit.proofs.Rows.{product-small}
 use Rattle.arcstring_listing.proofs.Visits.{kept-self, kept-few}
 use borrow.Author.Needs.{needs}
 use Rattle.arcstring_listing.proofs.listing.holds_self.Statement.{statement}
 use Rattle.arcstring_listing.proofs.listing.holds_self.Tie as tie
 
-small : (c : tie.Else1) → (length (c .before .args .v .now) / 3 - 2) * (length (c .before .args .v .now) / 3 - 3) ≤ 1048576
+small : (c : tie.Else1) → (length (c .before .args .v .now) / 3 - 2) * (length (c .before .args .v .now) / 3 - 3) ≤ mostPairs
 small c = let w = stored-whole _ (c .before .pre) in
     product-small _ _ (le-trans (sub-le _ _) (w .at-most)) (le-trans (sub-le _ _) (w .at-most))
 
@@ -37,7 +38,7 @@ returns-2 c = λ e. let k = half-held _ _ (kept-self (c .before .before .args .v
     (points-held _ _ _ k (c .if2 .taken), le-trans k (leb-true _ _ e))
 
 returns-3 : tie.Need-returns-3
-returns-3 c = λ e. no e
+returns-3 c = λ e. never e
 
 pub holds-self-spec : {M : Type 1} → statement M
 holds-self-spec =

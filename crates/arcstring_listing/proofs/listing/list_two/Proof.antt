@@ -3,7 +3,7 @@
 use mathlib.Core.Path.{refl}
 use Rattle.arcstring_listing.specs.Listing.{listingOf}
 use Rattle.arcstring_listing.proofs.Listings.{lists-plain, fitting-leaves, no-room-leaves, listing-leaves, room-for-all}
-use Rattle.arcstring_listing.proofs.Tallies.{tally-kept}
+use Rattle.arcstring_tally.proofs.Tallies.{tally-kept}
 use Rattle.arcstring_listing.proofs.listing.list_two.Statement.{statement}
 use Rattle.arcstring_listing.proofs.listing.list_two.Tie as tie
 

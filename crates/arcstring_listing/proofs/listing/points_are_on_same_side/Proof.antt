@@ -1,15 +1,15 @@
 -- A refusal of the points, then of the string, else whether the number of kept points is even. Assumes nothing.
+use mathlib.Core.List.{[], _∷_}
 use mathlib.Core.Path.{_≡_, ap, _∙_}
 use mathlib.Core.Bool.{Bool}
 use Prim.Native.Nat.{ℕ, _%_}
 use lib.Dec.{eqb}
-use Rattle.arcstring.specs.Answer.{Answer, answered, unlessRefused, firstOf}
-use Rattle.arcstring.specs.Check.{checkNumber, storedCheck}
-use Rattle.arcstring.proofs.Answers.{answer-refused-first, answer-accepted-first, both-numbers}
-use Rattle.arcstring_crossing.specs.Crossing.{leg, legCheck}
+use Rattle.arcstring_check.specs.Answer.{Answer, answered, unlessRefused, firstOf}
+use Rattle.arcstring_check.specs.Check.{checkNumber, storedCheck}
+use Rattle.arcstring_check.proofs.Answers.{refused-in-turn, accepted-in-turn, both-numbers, passed-in-turn}
+use Rattle.arcstring.specs.Leg.{leg, legCheck}
 use Rattle.arcstring_listing.specs.Listing.{sameSide}
-use Rattle.arcstring_listing.proofs.Listings.{both-accepted}
-use Rattle.arcstring_listing.proofs.Tallies.{tally-kept}
+use Rattle.arcstring_tally.proofs.Tallies.{tally-kept}
 use Rattle.arcstring_listing.proofs.listing.points_are_on_same_side.Statement.{statement}
 use Rattle.arcstring_listing.proofs.listing.points_are_on_same_side.Tie as tie
 
@@ -23,12 +23,12 @@ number c = c .first-of .ensures ∙ both-numbers (c .before .before .check-leg .
 accepted : (c : tie.After-enum-told) → (legCheck (leg (c .before .before .before .before .before .before .args .point-a)
     (c .before .before .before .before .before .before .args .point-b)) ≡ 0)
     × (storedCheck (c .before .before .before .before .before .before .args .v .now) ≡ 0)
-accepted c = both-accepted _ (legCheck _) (storedCheck _) (c .enum-told .given .1) (number (c .before .before))
+accepted c = passed-in-turn _ (legCheck _) (storedCheck _ ∷ []) (c .enum-told .given .1) (number (c .before .before))
 
 follows : (c : tie.After-enum-told) (x : Answer Bool) → x ≡ unlessRefused
     (legCheck (leg (c .before .before .before .before .before .before .args .point-a) (c .before .before .before .before .before .before .args .point-b)))
     (unlessRefused (storedCheck (c .before .before .before .before .before .before .args .v .now)) x)
-follows c x = answer-accepted-first _ (legCheck _) (storedCheck _) x (c .enum-told .given .1) (number (c .before .before))
+follows c x = accepted-in-turn _ (legCheck _) (storedCheck _ ∷ []) x (c .enum-told .given .1) (number (c .before .before))
 
 check-leg-requires : tie.Need-check-leg-requires
 check-leg-requires c κs = tt
@@ -44,7 +44,7 @@ enum-known-checked c = c .match .keys1
 
 returns : tie.Need-returns
 unfolding sameSide
-returns c = answer-refused-first _ _ (legCheck _) (storedCheck _) _ (c .before .checked .given .1) (number (c .before .before .before))
+returns c = refused-in-turn _ _ (legCheck _) (storedCheck _ ∷ []) _ (c .before .checked .given .1) (number (c .before .before .before))
 
 enum-told : tie.Need-enum-told
 enum-told c = c .match .keys2

@@ -1,6 +1,6 @@
 -- The pairs of a leg with an accepted string are counted: those of a string of two vertices. Assumes nothing.
 use mathlib.Core.Path.{ap, _∙_}
-use Rattle.arcstring_listing.specs.Tally.{noTally, tallyOn}
+use Rattle.arcstring_tally.specs.Tally.{noTally, tallyOn}
 use Rattle.arcstring_listing.proofs.Visits.{accepted-as, visits-as}
 use borrow.Author.Needs.{needs}
 use Rattle.arcstring_listing.proofs.listing.tally_leg.Statement.{statement}

@@ -1,9 +1,9 @@
 -- The pairs of an accepted string with itself are counted. Assumes nothing.
 use mathlib.Core.Path.{refl}
 use native.Mathlib.Nat.{le-trans}
-use Rattle.arcstring.proofs.Checks.{stored-whole, stored-some}
-use Rattle.arcstring_listing.proofs.Rows.{within-few}
-use Rattle.arcstring_listing.proofs.Tallies.{tallied}
+use Rattle.arcstring_check.proofs.Checks.{stored-whole, stored-some}
+use Rattle.arcstring_visit.proofs.Rows.{within-few}
+use Rattle.arcstring_visit.proofs.Walks.{tallied}
 use Rattle.arcstring_listing.proofs.Visits.{self-visits}
 use Rattle.arcstring_listing.proofs.listing.tally_self.Statement.{statement}
 use Rattle.arcstring_listing.proofs.listing.tally_self.Tie as tie
@@ -19,7 +19,8 @@ returns : tie.Need-returns
 returns c =
     let s = c .before .before .before in
     let l = c .before .leg-count in
-    tallied _ _ _ _ (self-visits _ _ _ (s .pre) (l .ensures .0)) refl (c .count-within .ensures) (within-few _ _ (le-trans (l .ensures .1) (stored-whole _ (s .pre) .at-most)))
+    tallied _ _ _ _ (self-visits _ _ _ (s .pre) (l .ensures .0)) refl (c .count-within .ensures)
+    (within-few _ _ (le-trans (l .ensures .1) (stored-whole _ (s .pre) .at-most)))
 
 pub tally-self-spec : {M : Type 1} → statement M
 tally-self-spec = tie.close (tie.spec leg-count-requires count-within-requires returns)

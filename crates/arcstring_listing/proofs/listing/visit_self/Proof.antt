@@ -3,13 +3,14 @@ use mathlib.Core.Path.{_≡_, refl, ap, _∙_}
 use mathlib.Core.Bool.{false}
 use native.Mathlib.Nat.{sub-le}
 use native.Mathlib.Omega.{arith}
-use Rattle.arcstring.proofs.Checks.{stored-whole, stored-some}
-use Rattle.arcstring_crossing.proofs.Legs.{open-count}
+use Rattle.arcstring_check.proofs.Checks.{stored-whole, stored-some}
+use Rattle.arcstring.proofs.Legs.{open-count}
 use Rattle.arcstring_listing.specs.Listing.{selfPairs}
-use Rattle.arcstring_listing.specs.Tally.{noTally, tallyOn, visitsFrom}
+use Rattle.arcstring_tally.specs.Tally.{noTally, tallyOn}
+use Rattle.arcstring_visit.specs.Visit.{visitsFrom}
 use Rattle.arcstring_listing.proofs.Listings.{normalized-in-place}
-use Rattle.arcstring_listing.proofs.Marks.{room-at-start, room-of, written-of}
-use Rattle.arcstring_listing.proofs.Tallies.{tally-kept}
+use Rattle.arcstring_tally.proofs.Marks.{room-at-start, room-of, written-of}
+use Rattle.arcstring_tally.proofs.Tallies.{tally-kept}
 use Rattle.arcstring_listing.proofs.Visits.{self-visits}
 use Rattle.arcstring_listing.proofs.listing.visit_self.Statement.{statement}
 use Rattle.arcstring_listing.proofs.listing.visit_self.Tie as tie

@@ -1,9 +1,10 @@
 -- The pairs of two accepted strings are counted, and what they keep is written. Assumes nothing.
 use mathlib.Core.Path.{refl, ap, _∙_}
-use Rattle.arcstring.proofs.Checks.{stored-whole, stored-some}
-use Rattle.arcstring_crossing.proofs.Signs.{no}
-use Rattle.arcstring_listing.specs.Tally.{noTally, tallyOn, visitsFrom}
-use Rattle.arcstring_listing.proofs.Marks.{room-at-start, room-of, written-of}
+use Rattle.ieee754.proofs.Tests.{never}
+use Rattle.arcstring_check.proofs.Checks.{stored-whole, stored-some}
+use Rattle.arcstring_tally.specs.Tally.{noTally, tallyOn}
+use Rattle.arcstring_visit.specs.Visit.{visitsFrom}
+use Rattle.arcstring_tally.proofs.Marks.{room-at-start, room-of, written-of}
 use Rattle.arcstring_listing.proofs.Visits.{two-visits}
 use Rattle.arcstring_listing.proofs.listing.visit_two.Statement.{statement}
 use Rattle.arcstring_listing.proofs.listing.visit_two.Tie as tie
@@ -25,7 +26,7 @@ visit-requires c κs = let s = c .before .before .before .before .before .before
       (
         (w .triples, c .before .before .leg-count2 .ensures .1, w .at-most),
         (
-          no,
+          never,
           record {
             fits = λ o. room-at-start _ (s .args .points .now) (s .args .marks .now)
                 (room-of _ _ v (s .args .points .now) (s .args .marks .now) (s .pre .1));

@@ -1,7 +1,7 @@
 -- What the pairs of an accepted string with itself keep is written and normalised, where they keep any. Assumes nothing.
 use mathlib.Core.Path.{sym, _∙_}
 use Rattle.arcstring_listing.proofs.Listings.{none-normalized}
-use Rattle.arcstring_listing.proofs.Marks.{nothing-of}
+use Rattle.arcstring_tally.proofs.Marks.{nothing-of}
 use borrow.Author.Needs.{needs}
 use Rattle.arcstring_listing.proofs.listing.write_self.Statement.{statement}
 use Rattle.arcstring_listing.proofs.listing.write_self.Tie as tie

@@ -1,6 +1,6 @@
 -- What the pairs of two accepted strings keep is written, where they keep any. Assumes nothing.
 use mathlib.Core.Path.{sym, _∙_}
-use Rattle.arcstring_listing.proofs.Marks.{nothing-of, none-written}
+use Rattle.arcstring_tally.proofs.Marks.{nothing-of, none-written}
 use borrow.Author.Needs.{needs}
 use Rattle.arcstring_listing.proofs.listing.write_two.Statement.{statement}
 use Rattle.arcstring_listing.proofs.listing.write_two.Tie as tie

@@ -1,6 +1,6 @@
 -- `midpoints` answers as its checks do, and else writes the midpoint of each leg. Assumes nothing.
 use mathlib.Core.Path.{sym, ap, _∙_}
-use Rattle.arcstring.specs.Check.{checkNumber}
+use Rattle.arcstring_check.specs.Check.{checkNumber}
 use Rattle.arcstring_measure.proofs.Midpoints.{midpoints-some, refused-midpoints, accepted-triples, cramped-midpoints, written-midpoints}
 use borrow.Author.Needs.{needs}
 use Rattle.arcstring_measure.proofs.measure.midpoints.Statement.{statement}
@@ -31,13 +31,18 @@ returns-2 : tie.Need-returns-2
 returns-2 c = let l = c .before in
     let f = l .before .before .before in
     let s = f .before .before .before in
-    cramped-midpoints _ (s .args .v .now) (s .args .closed) (s .args .out .now) (f .check-midpoints .ensures) _ (l .before .enum-told .given .1) (l .leg-count .ensures .0) (l .leg-count .ensures .1) (c .if1 .taken)
+    cramped-midpoints _ (s .args .v .now) (s .args .closed) (s .args .out .now) (f .check-midpoints .ensures) _ (l .before .enum-told .given .1)
+    (l .leg-count .ensures .0) (l .leg-count .ensures .1) (c .if1 .taken)
 
 put-midpoints-requires : tie.Need-put-midpoints-requires
 put-midpoints-requires c κs = let l = c .before .before in
     let f = l .before .before .before in
-    let s = f .before .before .before in
-    (accepted-triples _ (s .args .v .now) (s .args .closed) (s .args .out .now) (f .check-midpoints .ensures) _ (l .before .enum-told .given .1) (l .leg-count .ensures .0) (l .leg-count .ensures .1), l .leg-count .ensures .1, c .before .if1 .left)
+    let s = f .before .before .before in (
+      accepted-triples _ (s .args .v .now) (s .args .closed) (s .args .out .now) (f .check-midpoints .ensures) _ (l .before .enum-told .given .1)
+          (l .leg-count .ensures .0) (l .leg-count .ensures .1),
+      l .leg-count .ensures .1,
+      c .before .if1 .left,
+    )
 
 same-length : tie.Need-same-length
 same-length c = search needs
@@ -47,7 +52,8 @@ returns-3 c = let d = c .before .before .before .before in
     let l = d .before in
     let f = l .before .before .before in
     let s = f .before .before .before in
-    written-midpoints _ (s .args .v .now) (s .args .closed) (s .args .out .now) (f .check-midpoints .ensures) _ (l .before .enum-told .given .1) (l .leg-count .ensures .0) (l .leg-count .ensures .1) _ (d .if1 .left) (c .before .before .put-midpoints .ensures)
+    written-midpoints _ (s .args .v .now) (s .args .closed) (s .args .out .now) (f .check-midpoints .ensures) _ (l .before .enum-told .given .1)
+    (l .leg-count .ensures .0) (l .leg-count .ensures .1) _ (d .if1 .left) (c .before .before .put-midpoints .ensures)
 
 pub midpoints-spec : {M : Type 1} → statement M
 midpoints-spec =

@@ -6,7 +6,7 @@ use native.Mathlib.Omega.{arith}
 use lib.ListN.{length}
 use Rattle.arcstring.specs.Points.{flat}
 use Rattle.arcstring.specs.Splice.{splice}
-use Rattle.arcstring_crossing.specs.Leg.{legsFrom}
+use Rattle.arcstring.specs.Leg.{legsFrom}
 use Rattle.arcstring_measure.specs.Measure.{midpoint}
 use Rattle.arcstring_measure.proofs.Midpoints.{midpoints-none, midpoints-step, midpoints-all}
 use borrow.Author.Needs.{needs}
@@ -40,8 +40,12 @@ loop-less c = search needs
 loop-again : tie.Need-loop-again Inv-loop μ-loop
 loop-again c = let put = c .before .before .put-vertex in
     let d = c .before .before .before .before .before .before .before in
-    let s = d .before .before .before in
-    (omega arith, put .kept .0 ∙ d .loop .inv .1, midpoints-step (s .args .v .now) (s .args .n) (d .loop .k) _ _ _ _ _ (s .pre .0) (omega arith) (d .loop .inv .2) (c .before .before .before .before .leg-at .ensures) (c .before .before .before .midpoint-of .ensures) (put .ensures))
+    let s = d .before .before .before in (
+      omega arith,
+      put .kept .0 ∙ d .loop .inv .1,
+      midpoints-step (s .args .v .now) (s .args .n) (d .loop .k) _ _ _ _ _ (s .pre .0) (omega arith)
+          (d .loop .inv .2) (c .before .before .before .before .leg-at .ensures) (c .before .before .before .midpoint-of .ensures) (put .ensures),
+    )
 
 same-length : tie.Need-same-length Inv-loop μ-loop
 same-length c = c .before .loop .inv .1

@@ -37,8 +37,12 @@ loop-less c = search needs
 
 loop-again : tie.Need-loop-again Inv-loop μ-loop
 loop-again c = let d = c .before .before in
-    let s = d .before .before .before in
-    (omega arith, length-set (d .loop .out) (d .loop .k) (c .turn-at .result) ∙ d .loop .inv .1, turns-step (points (s .args .v .now)) _ (d .loop .k) _ (d .loop .out) _ (omega arith) (d .loop .inv .1) (d .loop .inv .2) (c .turn-at .ensures))
+    let s = d .before .before .before in (
+      omega arith,
+      length-set (d .loop .out) (d .loop .k) (c .turn-at .result) ∙ d .loop .inv .1,
+      turns-step (points (s .args .v .now)) _ (d .loop .k) _
+          (d .loop .out) _ (omega arith) (d .loop .inv .1) (d .loop .inv .2) (c .turn-at .ensures),
+    )
 
 same-length : tie.Need-same-length Inv-loop μ-loop
 same-length c = c .before .loop .inv .1

@@ -33,7 +33,9 @@ returns-2 : tie.Need-returns-2
 returns-2 c = let after = c .before .before in
     let before = after .before .before .before in
     let s = before .before .before .before in
-    turn-there (s .args .v .now) _ _ _ (s .pre .0) _ _ _ _ _ _ (before .before .if1 .left) (s .pre .1) (before .position-before .ensures .1) (after .position-after .ensures .1) (before .position-before .ensures .0) (after .before .before .vertex-at .ensures) (after .before .vertex-at2 .ensures) (after .position-after .ensures .0) (c .before .vertex-at3 .ensures) (c .turn-between .ensures)
+    turn-there (s .args .v .now) _ _ _ (s .pre .0) _ _ _ _ _ _ (before .before .if1 .left) (s .pre .1) (before .position-before .ensures .1)
+    (after .position-after .ensures .1) (before .position-before .ensures .0) (after .before .before .vertex-at .ensures) (after .before .vertex-at2 .ensures)
+    (after .position-after .ensures .0) (c .before .vertex-at3 .ensures) (c .turn-between .ensures)
 
 pub turn-at-spec : {M : Type 1} → statement M
 turn-at-spec =

@@ -9,7 +9,8 @@ all-along-requires c κs = search needs
 
 returns : tie.Need-returns
 returns c = let s = c .before .before .before .before .before .before in
-    left-within (s .args .a .now) (s .args .a-near .now) (s .args .a-closed) (s .args .b .now) (s .args .b-near .now) (s .args .b-closed) _ (c .before .all-along .ensures) (c .if1 .taken)
+    left-within (s .args .a .now) (s .args .a-near .now) (s .args .a-closed) (s .args .b .now) (s .args .b-near .now) (s .args .b-closed) _
+    (c .before .all-along .ensures) (c .if1 .taken)
 
 all-along-requires-2 : tie.Need-all-along-requires-2
 all-along-requires-2 c κs = search needs
@@ -17,7 +18,8 @@ all-along-requires-2 c κs = search needs
 returns-2 : tie.Need-returns-2
 returns-2 c = let d = c .before .before in
     let s = d .before .before .before .before .before .before in
-    right-within (s .args .a .now) (s .args .a-near .now) (s .args .a-closed) (s .args .b .now) (s .args .b-near .now) (s .args .b-closed) _ _ (d .before .all-along .ensures) (d .if1 .left) (c .before .all-along2 .ensures) (c .if2 .taken)
+    right-within (s .args .a .now) (s .args .a-near .now) (s .args .a-closed) (s .args .b .now) (s .args .b-near .now) (s .args .b-closed) _ _
+    (d .before .all-along .ensures) (d .if1 .left) (c .before .all-along2 .ensures) (c .if2 .taken)
 
 tally-two-requires : tie.Need-tally-two-requires
 tally-two-requires c κs = search needs
@@ -26,7 +28,8 @@ returns-3 : tie.Need-returns-3
 returns-3 c = let e = c .before .before in
     let d = e .before .before in
     let s = d .before .before .before .before .before .before in
-    some-kept (s .args .a .now) (s .args .a-near .now) (s .args .a-closed) (s .args .b .now) (s .args .b-near .now) (s .args .b-closed) _ _ _ (d .before .all-along .ensures) (d .if1 .left) (e .before .all-along2 .ensures) (e .if2 .left) (c .before .tally-two .ensures .0)
+    some-kept (s .args .a .now) (s .args .a-near .now) (s .args .a-closed) (s .args .b .now) (s .args .b-near .now) (s .args .b-closed) _ _ _
+    (d .before .all-along .ensures) (d .if1 .left) (e .before .all-along2 .ensures) (e .if2 .left) (c .before .tally-two .ensures .0)
 
 pub crosses-string-spec : {M : Type 1} → statement M
 crosses-string-spec =

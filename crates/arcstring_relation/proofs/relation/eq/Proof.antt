@@ -1,9 +1,11 @@
 -- `==` refuses as the four lists' checks do, and else compares the strings. Assumes nothing.
+use mathlib.Core.List.{[], _∷_}
 use mathlib.Core.Path.{ap, _∙_}
-use Rattle.arcstring.specs.Answer.{answered}
-use Rattle.arcstring.specs.Check.{storedCheck}
-use Rattle.arcstring.proofs.Answers.{answer-refused-in-four, answer-accepted-in-four, passed-in-four}
+use Rattle.arcstring_check.specs.Answer.{answered}
+use Rattle.arcstring_check.specs.Check.{storedCheck}
+use Rattle.arcstring_check.proofs.Answers.{refused-in-turn, accepted-in-turn}
 use Rattle.arcstring_relation.specs.Relation.{twoStrings, equal}
+use Rattle.arcstring_relation.proofs.Relations.{four-accepted}
 use borrow.Author.Needs.{needs}
 use Rattle.arcstring_relation.proofs.relation.eq.Statement.{statement}
 use Rattle.arcstring_relation.proofs.relation.eq.Tie as tie
@@ -18,16 +20,18 @@ enum-told : tie.Need-enum-told
 enum-told c = search needs
 
 equal-strings-requires : tie.Need-equal-strings-requires
-equal-strings-requires c κs = passed-in-four _ (storedCheck _) (storedCheck _) (storedCheck _) (storedCheck _) (c .enum-told .given .1) (c .before .before .check-two .ensures)
+equal-strings-requires c κs = four-accepted _ (c .enum-told .given .1) _ _ _ _ (c .before .before .check-two .ensures)
 
 returns : tie.Need-returns
 unfolding equal twoStrings
-returns c = answer-refused-in-four _ _ (storedCheck _) (storedCheck _) (storedCheck _) (storedCheck _) _ (c .before .checked .given .1) (c .before .before .before .check-two .ensures)
+returns c = refused-in-turn _ _ (storedCheck _) (storedCheck _ ∷ storedCheck _ ∷ storedCheck _ ∷ []) _ (c .before .checked .given .1)
+    (c .before .before .before .check-two .ensures)
 
 returns-2 : tie.Need-returns-2
 unfolding equal twoStrings
 returns-2 c = ap answered (c .equal-strings .ensures)
-    ∙ answer-accepted-in-four _ (storedCheck _) (storedCheck _) (storedCheck _) (storedCheck _) _ (c .before .enum-told .given .1) (c .before .before .before .check-two .ensures)
+    ∙ accepted-in-turn _ (storedCheck _) (storedCheck _ ∷ storedCheck _ ∷ storedCheck _ ∷ []) _ (c .before .enum-told .given .1)
+    (c .before .before .before .check-two .ensures)
 
 pub eq-spec : {M : Type 1} → statement M
 eq-spec =

@@ -1,8 +1,8 @@
 -- `simplify` answers as its check does, and else as `simplify_in` does, in lists of either size. Assumes nothing.
 use mathlib.Core.Path.{_≡_, sym, ap, _∙_}
 use native.Mathlib.Omega.{arith}
-use Rattle.arcstring.specs.Check.{checkNumber, stringCheck}
-use Rattle.arcstring.proofs.Checks.{stored-whole, string-stored}
+use Rattle.arcstring_check.specs.Check.{checkNumber, stringCheck}
+use Rattle.arcstring_check.proofs.Checks.{stored-whole, string-stored}
 use Rattle.arcstring_simplify.proofs.Simplifies.{simplify-refused}
 use borrow.Author.Needs.{needs}
 use Rattle.arcstring_simplify.proofs.simplify.simplify.Statement.{statement}

@@ -5,10 +5,10 @@ use native.Mathlib.Omega.{arith}
 use lib.ListN.{length, take}
 use lib.Seq.{length-take-le}
 use Rattle.arcstring.specs.Positions.{Within}
-use Rattle.arcstring.proofs.Checks.{as-many-buoys}
-use Rattle.arcstring.proofs.Written.{both-fit}
-use Rattle.arcstring_simplify.proofs.RoundSteps.{written-at-most}
-use Rattle.arcstring_simplify.proofs.Simplifies.{left-within, simplify-past-end, simplify-no-room, simplify-done}
+use Rattle.arcstring_check.proofs.Checks.{as-many-buoys}
+use Rattle.arcstring.proofs.Written.{both-fit, held-at-most}
+use Rattle.arcstring_rounds.proofs.Left.{left-within}
+use Rattle.arcstring_simplify.proofs.Simplifies.{simplify-past-end, simplify-no-room, simplify-done}
 use borrow.Author.Needs.{needs}
 use Rattle.arcstring_simplify.proofs.simplify.simplify_in.Statement.{statement}
 use Rattle.arcstring_simplify.proofs.simplify.simplify_in.Tie as tie
@@ -21,7 +21,7 @@ size c = c .before .before .before .before .before .before .simplify-positions .
 -- no more positions are left than there are vertices, and they stand in the list
 few : (c : tie.After-left) → c .left .given .0 .0
     ≤ length (c .before .before .before .before .before .before .before .before .before .before .before .before .before .before .before .args .v .now) / 3
-few c = written-at-most _ _ _ (c .left .given .1) (c .before .before .before .before .before .before .simplify-positions .ensures .1)
+few c = held-at-most _ _ _ (c .left .given .1) (c .before .before .before .before .before .before .simplify-positions .ensures .1)
 
 room : (c : tie.After-left) → c .left .given .0 .0 ≤ length (c .before .before .before .before .before .before .simplify-positions .last .1 .1 .0)
 room c = omega (arith, size c, few c)

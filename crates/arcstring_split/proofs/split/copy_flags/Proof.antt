@@ -5,8 +5,8 @@ use native.Mathlib.Omega.{arith}
 use lib.ListN.{length, take, length-set}
 use Rattle.arcstring.specs.Splice.{splice}
 use Rattle.arcstring.proofs.Splices.{splice-nothing}
-use Rattle.arcstring_split.specs.Pieces.{flagsOf}
-use Rattle.arcstring_split.proofs.Runs.{flags-step}
+use Rattle.arcstring_split.specs.Handed.{flagsOf}
+use Rattle.arcstring_split.proofs.split.FlagsCopied.{flags-step}
 use Rattle.arcstring_split.proofs.split.copy_flags.Statement.{statement}
 use Rattle.arcstring_split.proofs.split.copy_flags.Tie as tie
 
@@ -39,8 +39,11 @@ loop-less c = omega arith
 
 loop-again : tie.Need-loop-again Inv-loop μ-loop
 loop-again c = let d = c .before .before .before in
-    let a = d .before .before .before .args in
-    (omega arith, simp length-set (d .loop .inv .1), flags-step (a .list .now) (a .out .now) _ (d .loop .i) _ (omega arith) (omega arith) (d .loop .inv .2) (c .flag-byte .ensures))
+    let a = d .before .before .before .args in (
+      omega arith,
+      simp length-set (d .loop .inv .1),
+      flags-step (a .list .now) (a .out .now) _ (d .loop .i) _ (omega arith) (omega arith) (d .loop .inv .2) (c .flag-byte .ensures),
+    )
 
 same-length : tie.Need-same-length Inv-loop μ-loop
 same-length c = c .before .loop .inv .1

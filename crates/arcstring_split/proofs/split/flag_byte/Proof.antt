@@ -2,7 +2,7 @@
 use mathlib.Core.Path.{sym, ap}
 use mathlib.Core.Bool.{Bool, not}
 use borrow.Author.Tests.{eq-eqb, ne-eqb}
-use Rattle.arcstring.specs.Answer.{flagNumber}
+use Rattle.arcstring_check.specs.Answer.{flagNumber}
 use Rattle.arcstring_split.proofs.split.flag_byte.Statement.{statement}
 use Rattle.arcstring_split.proofs.split.flag_byte.Tie as tie
 

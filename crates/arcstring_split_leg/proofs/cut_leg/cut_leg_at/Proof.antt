@@ -2,12 +2,35 @@
 use Prim.Native.Nat.{_<_}
 use native.Mathlib.Omega.{arith}
 use borrow.Author.Tests.{not-true, not-false}
+use Rattle.arcstring_split_leg.specs.Legs.{mostLegs}
 use Rattle.arcstring_split_leg.proofs.LegCuts.{place-uncut, place-full, place-cut}
 use Rattle.arcstring_split_leg.proofs.cut_leg.cut_leg_at.Statement.{statement}
 use Rattle.arcstring_split_leg.proofs.cut_leg.cut_leg_at.Tie as tie
 
-leg-of-pair-requires : tie.Need-leg-of-pair-requires
-leg-of-pair-requires c κs = omega arith
+-- the places that the needs look back at: the entry, the test whether the point cuts the leg, each write of the point
+abbrev entry : tie.After-cuts-leg → tie.Start
+entry c = c .before .before .before .before
+
+abbrev tested : tie.After-put-vertex → tie.After-cuts-leg
+tested c = c .before .before .before .before
+
+abbrev put : tie.After-insert-vertex → tie.After-put-vertex
+put c = c .before .before .before .before
+
+abbrev once : tie.After-insert-vertex2 → tie.After-insert-vertex
+once c = c .before .before .before .before
+
+mul-leg-between : tie.Need-mul-leg-between
+mul-leg-between c = omega arith
+
+mul-leg-between-2 : tie.Need-mul-leg-between-2
+mul-leg-between-2 c = omega arith
+
+add-leg-between : tie.Need-add-leg-between
+add-leg-between c = omega arith
+
+leg-between-requires : tie.Need-leg-between-requires
+leg-between-requires c κs = omega arith
 
 cuts-leg-requires : tie.Need-cuts-leg-requires
 cuts-leg-requires c κs = omega arith
@@ -16,16 +39,25 @@ same-length : tie.Need-same-length
 same-length c = omega arith
 
 returns : tie.Need-returns
-returns c = let s = c .before .before .before .before .before in
-    (place-uncut (s .args .p) (s .args .work .now) (s .args .m) (s .args .k) _ _ (s .pre .0) (omega arith) (c .before .before .leg-of-pair .ensures) (c .before .cuts-leg .ensures) (not-true _ (c .if1 .taken)), s .pre .1)
+returns c = let t = c .before in
+    let s = entry t in
+    let a = s .args in (
+      place-uncut (a .p) (a .work .now) (a .m) (a .k) _ _ (s .pre .0) (omega arith) (t .before .leg-between .ensures) (t .cuts-leg .ensures)
+          (not-true _ (c .if1 .taken)),
+      s .pre .1,
+    )
 
 same-length-2 : tie.Need-same-length-2
 same-length-2 c = omega arith
 
 returns-2 : tie.Need-returns-2
-returns-2 c = let d = c .before .before in
-    let s = d .before .before .before .before in
-    (place-full (s .args .p) (s .args .work .now) (s .args .m) (s .args .k) _ _ (s .pre .0) (omega arith) (d .before .leg-of-pair .ensures) (d .cuts-leg .ensures) (not-false _ (c .before .if1 .left)) (c .if2 .taken), omega arith)
+returns-2 c = let t = c .before .before in
+    let s = entry t in
+    let a = s .args in (
+      place-full (a .p) (a .work .now) (a .m) (a .k) _ _ (s .pre .0) (omega arith) (t .before .leg-between .ensures) (t .cuts-leg .ensures)
+          (not-false _ (c .before .if1 .left)) (c .if2 .taken),
+      omega arith,
+    )
 
 mul-put-vertex : tie.Need-mul-put-vertex
 mul-put-vertex c = omega arith
@@ -63,27 +95,35 @@ add-insert-vertex-3 c = omega arith
 insert-vertex-requires-2 : tie.Need-insert-vertex-requires-2
 insert-vertex-requires-2 c κs = omega arith
 
-add-t18 : tie.Need-add-t18
-add-t18 c = omega arith
+add-t10 : tie.Need-add-t10
+add-t10 c = omega arith
 
 same-length-3 : tie.Need-same-length-3
 same-length-3 c = omega arith
 
 returns-3 : tie.Need-returns-3
 returns-3 c = let twice = c .before .before in
-    let once = twice .before .before .before .before in
-    let put = once .before .before .before .before in
-    let d = put .before .before in
-    let f = d .before .before in
-    let s = f .before .before .before .before in
-    let some : s .args .m < 512 = omega (arith, s .pre .1, d .if2 .left) in
-    (place-cut (s .args .p) (s .args .work .now) (s .args .m) (s .args .k) _ _ (s .pre .0) (omega (arith, s .pre .2)) (f .before .leg-of-pair .ensures) (f .cuts-leg .ensures) _ _ _ (not-false _ (d .before .if1 .left)) some (omega (arith, s .pre .2)) (put .put-vertex .kept .0) (once .insert-vertex .kept .0) (put .put-vertex .ensures) (once .insert-vertex .ensures) (twice .insert-vertex2 .ensures), omega arith)
+    let o = once twice in
+    let w = put o in
+    let e = w .before .before in
+    let t = tested w in
+    let s = entry t in
+    let a = s .args in
+    let some : a .m < mostLegs = omega (arith, s .pre .1, e .if2 .left) in (
+      place-cut (a .p) (a .work .now) (a .m) (a .k) _ _ (s .pre .0) (omega (arith, s .pre .2)) (t .before .leg-between .ensures) (t .cuts-leg .ensures)
+          _ _ _ (not-false _ (e .before .if1 .left)) some (omega (arith, s .pre .2)) (w .put-vertex .kept .0) (o .insert-vertex .kept .0)
+          (w .put-vertex .ensures) (o .insert-vertex .ensures) (twice .insert-vertex2 .ensures),
+      omega arith,
+    )
 
 pub cut-leg-at-spec : {M : Type 1} → statement M
 cut-leg-at-spec =
     tie.close
     (tie.spec
-    leg-of-pair-requires
+    mul-leg-between
+    mul-leg-between-2
+    add-leg-between
+    leg-between-requires
     cuts-leg-requires
     same-length
     returns
@@ -101,6 +141,6 @@ cut-leg-at-spec =
     mul-insert-vertex-4
     add-insert-vertex-3
     insert-vertex-requires-2
-    add-t18
+    add-t10
     same-length-3
     returns-3)

@@ -1,22 +1,28 @@
 -- `cut_legs` cuts at one point, place after place: the places that are left, from the legs that stand in the list, give the whole answer. Assumes nothing.
 use mathlib.Core.Path.{_≡_, refl, _∙_}
-use Prim.Native.Nat.{_≤_, _-_, _*_}
+use Prim.Native.Nat.{_≤_, _-_}
 use native.Mathlib.Omega.{arith}
 use lib.ListN.{length}
-use Rattle.arcstring.specs.Work.{firstOfList}
 use Rattle.arcstring_insert.specs.Steps.{forPositions}
-use Rattle.arcstring_split_leg.specs.Legs.{legsOf}
+use Rattle.arcstring_split_leg.specs.Legs.{mostLegs}
 use Rattle.arcstring_split_leg.specs.SplitLeg.{cutLegAt, cutLegs}
 use Rattle.arcstring_split_leg.proofs.LegSplits.{places-begin, places-end, places-stop, places-on, places-longer, cut-at-most}
+use Rattle.arcstring_split_leg.proofs.LegPairs.{firstLegs}
 use Rattle.arcstring_split_leg.proofs.cut_leg.cut_legs.Statement.{statement}
 use Rattle.arcstring_split_leg.proofs.cut_leg.cut_legs.Tie as tie
 
 abbrev Inv-loop : tie.InvT-loop
 Inv-loop work₀ m p longer₀ k₀ work longer k =
-    (k ≤ m) × (m ≤ longer) × (longer ≤ 512) × (length work ≡ length work₀) × (forPositions (cutLegAt p) k (m - k) (legsOf (firstOfList (2 * longer) work)) ≡ cutLegs p (legsOf (firstOfList (2 * m) work₀)))
+    (k ≤ m) × (m ≤ longer) × (longer ≤ mostLegs) × (length work ≡ length work₀)
+    × (forPositions (cutLegAt p) k (m - k) (firstLegs longer work)
+    ≡ cutLegs p (firstLegs m work₀))
 
 abbrev μ-loop : tie.MeasureT-loop
 μ-loop work₀ m p longer₀ k₀ work longer k = m - k
+
+-- the turn of the loop that a place was cut in
+abbrev turn : tie.After-cut-leg-at Inv-loop μ-loop → tie.At-loop Inv-loop μ-loop
+turn c = c .before .before .before
 
 loop-holds : tie.Need-loop-holds Inv-loop μ-loop
 loop-holds c = let s = c .before in (omega arith, omega arith, s .pre .0, refl, places-begin (s .args .p) (s .args .work .now) (s .args .m) (omega arith))
@@ -31,13 +37,16 @@ enum-told : tie.Need-enum-told Inv-loop μ-loop
 enum-told c = omega arith
 
 same-length : tie.Need-same-length Inv-loop μ-loop
-same-length c = c .before .before .before .before .cut-leg-at .kept .0 ∙ c .before .before .before .before .before .before .before .loop .inv .3
+same-length c = let f = c .before .before .before .before in f .cut-leg-at .kept .0 ∙ turn f .loop .inv .3
 
 returns : tie.Need-returns Inv-loop μ-loop
 returns c = let f = c .before .before .before .before in
-    let d = f .before .before .before in
-    let s = d .before .before in
-    (places-stop (s .args .p) (d .loop .work) (d .loop .longer) (s .args .m) (d .loop .k) _ (d .loop .inv .4) _ _ (f .before .before .loop-test .taken) (f .cut-leg-at .ensures .0) _ (c .enum-told .given .1), f .cut-leg-at .ensures .1)
+    let w = turn f .loop in
+    let a = turn f .before .before .args in (
+      places-stop (a .p) (w .work) (w .longer) (a .m) (w .k) _ (w .inv .4) _ _ (f .before .before .loop-test .taken) (f .cut-leg-at .ensures .0) _
+          (c .enum-told .given .1),
+      f .cut-leg-at .ensures .1,
+    )
 
 add-k : tie.Need-add-k Inv-loop μ-loop
 add-k c = omega arith
@@ -47,13 +56,16 @@ loop-less c = omega arith
 
 loop-again : tie.Need-loop-again Inv-loop μ-loop
 loop-again c = let f = c .before .before .before .before .before in
-    let d = f .before .before .before in
-    let s = d .before .before in
+    let d = turn f in
+    let w = d .loop in
+    let a = d .before .before .args in
     let told = c .before .cut .given .1 in
-    let most = cut-at-most _ _ 512 told (f .cut-leg-at .ensures .1) in
-    let kept = f .cut-leg-at .kept .0 ∙ d .loop .inv .3 in
-    let longer = places-longer (s .args .p) (d .loop .work) (d .loop .longer) (s .args .m) (d .loop .k) _ (d .loop .inv .4) _ _ (f .before .before .loop-test .taken) (f .cut-leg-at .ensures .0) _ told (d .loop .inv .1) (omega arith) (omega arith) in
-    (omega arith, omega arith, most, kept, places-on (s .args .p) (d .loop .work) (d .loop .longer) (s .args .m) (d .loop .k) _ (d .loop .inv .4) _ _ (f .before .before .loop-test .taken) (f .cut-leg-at .ensures .0) _ told)
+    let test = f .before .before .loop-test .taken in
+    let most = cut-at-most _ _ mostLegs told (f .cut-leg-at .ensures .1) in
+    let kept = f .cut-leg-at .kept .0 ∙ w .inv .3 in
+    let longer = places-longer (a .p) (w .work) (w .longer) (a .m) (w .k) _ (w .inv .4) _ _ test (f .cut-leg-at .ensures .0) _ told (w .inv .1) (omega arith)
+    (omega arith) in
+    (omega arith, omega arith, most, kept, places-on (a .p) (w .work) (w .longer) (a .m) (w .k) _ (w .inv .4) _ _ test (f .cut-leg-at .ensures .0) _ told)
 
 same-length-2 : tie.Need-same-length-2 Inv-loop μ-loop
 same-length-2 c = c .before .loop .inv .3

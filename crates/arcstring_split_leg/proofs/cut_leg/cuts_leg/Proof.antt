@@ -21,7 +21,8 @@ xyz-eq-requires-2 c κs = omega arith
 
 returns-2 : tie.Need-returns-2
 returns-2 c = let d = c .before .before .before in
-    at-end _ _ _ _ (d .before .before .start-of .ensures) (d .before .xyz-eq .ensures) _ _ (c .before .before .end-of .ensures) (c .before .xyz-eq2 .ensures) (d .if1 .left) (c .if2 .taken)
+    at-end _ _ _ _ (d .before .before .start-of .ensures) (d .before .xyz-eq .ensures) _ _ (c .before .before .end-of .ensures) (c .before .xyz-eq2 .ensures)
+    (d .if1 .left) (c .if2 .taken)
 
 along-leg-requires : tie.Need-along-leg-requires
 along-leg-requires c κs = omega arith
@@ -29,7 +30,8 @@ along-leg-requires c κs = omega arith
 returns-3 : tie.Need-returns-3
 returns-3 c = let e = c .before in
     let d = e .before .before .before in
-    between-ends _ _ _ _ (d .before .before .start-of .ensures) (d .before .xyz-eq .ensures) _ _ (e .before .before .end-of .ensures) (e .before .xyz-eq2 .ensures) (d .if1 .left) _ (e .if2 .left) (c .along-leg .ensures)
+    between-ends _ _ _ _ (d .before .before .start-of .ensures) (d .before .xyz-eq .ensures) _ _ (e .before .before .end-of .ensures)
+    (e .before .xyz-eq2 .ensures) (d .if1 .left) _ (e .if2 .left) (c .along-leg .ensures)
 
 pub cuts-leg-spec : {M : Type 1} → statement M
 cuts-leg-spec =

@@ -1,0 +1,42 @@
+//! What an answer holds, and the answers of verdicts, of vertices and of a string.
+use crate::lists::flat;
+use crate::numbered::{self, Vertex};
+use crate::random::Xyz;
+use crate::request::{Call, Places};
+
+/// A finished answer, before any look at the room for it: the single numbers before those of a buffer.
+#[derive(Default)]
+pub struct Answer {
+    pub floats: Vec<f64>,
+    pub buoys: Vec<u32>,
+    pub bytes: Vec<u8>,
+    pub numbers: Vec<u64>,
+}
+
+impl Answer {
+    /// how long each buffer of a call has to be for it
+    pub fn needed(&self, call: Call) -> Places {
+        let fixed = call.fixed();
+        call.buffers(Places {
+            floats: self.floats.len().saturating_sub(fixed.floats),
+            buoys: self.buoys.len(),
+            bytes: self.bytes.len().saturating_sub(fixed.bytes),
+            numbers: self.numbers.len().saturating_sub(fixed.numbers),
+        })
+    }
+}
+
+/// an answer, or the number of a refusal
+pub type Expected = Result<Answer, u32>;
+
+pub fn verdict(yes: bool) -> Answer {
+    Answer { bytes: vec![yes as u8], ..Answer::default() }
+}
+
+pub fn vertices(points: &[Xyz]) -> Answer {
+    Answer { floats: flat(points), numbers: vec![points.len() as u64], ..Answer::default() }
+}
+
+pub fn string(v: &[Vertex]) -> Answer {
+    Answer { buoys: v.iter().map(|v| v.1).collect(), ..vertices(&numbered::xyzs(v)) }
+}

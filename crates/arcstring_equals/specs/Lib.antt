@@ -1,0 +1,2 @@
+-- The definitions of the comparisons that simplify copies.
+pub mod Simplified

@@ -1,0 +1,2 @@
+// What the walk over pairs counts up and writes, pair by pair.
+pub mod tally;

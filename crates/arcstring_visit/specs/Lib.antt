@@ -1,0 +1,2 @@
+-- The definitions of the pairs that the walk visits. They serve inner contracts alone.
+pub mod Visit

@@ -1,0 +1,2 @@
+// The one walk over pairs of legs.
+pub mod walk;
