@@ -6,7 +6,7 @@ use Prim.Native.Nat.{ℕ, _+_, _*_, _≤_, _<_}
 use lib.ListN.{length}
 use lib.Ieee.{Float}
 use Rattle.sphericalpoint.specs.declared.SphericalPoint.{SphericalPoint}
-use Rattle.sphericalpoint.specs.Point.{xyzsCoplanar}
+use Rattle.sphericalpoint_coplanar.specs.Coplanar.{xyzsCoplanar}
 use Rattle.arcstring.specs.Points.{points, pointAt}
 use Rattle.arcstring.specs.Leg.{leg, legs, legAt, legsFrom, legCount}
 use Rattle.arcstring.proofs.Legs.{next-leg, last-leg, legs-step, legs-none, legs-whole}

@@ -15,7 +15,8 @@ use Rattle.arcstring.specs.Points.{points, pointAt}
 use Rattle.arcstring.proofs.Flat.{points-next, length-points}
 use Rattle.arcstring_along.specs.declared.inner.along.Found.{Found}
 use Rattle.arcstring_along.specs.declared.inner.along.Found.the-variants.{At, Nothing}
-use Rattle.arcstring_along.specs.OnString.{isNear, next, firstNear, foundAt, isSome, nearSome}
+use Rattle.arcstring_near.specs.Near.{isNear}
+use Rattle.arcstring_along.specs.OnString.{next, firstNear, foundAt, isSome, nearSome}
 use Rattle.arcstring_along.specs.AlongLaws.{NearBackwards}
 
 -- a position found in the part from k on, as one in the whole

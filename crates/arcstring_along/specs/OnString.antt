@@ -4,23 +4,16 @@ use mathlib.Core.Bool.{Bool, true, false, _||_}
 use mathlib.Core.List.{List, [], _∷_}
 use mathlib.Core.Option.{Option, none, some}
 use Prim.Native.Nat.{ℕ, suc}
-use lib.Ieee.{Float, lt}
+use lib.Ieee.{Float}
 use Rattle.sphericalpoint.specs.declared.SphericalPoint.{SphericalPoint}
-use Rattle.sphericalpoint.specs.Vector.{equalityTolerance, xyzSub, xyzMul, xyzSum}
-use Rattle.sphericalpoint.specs.Point.{xyzsCoplanar}
+use Rattle.sphericalpoint_coplanar.specs.Coplanar.{xyzsCoplanar}
+use Rattle.arcstring_near.specs.Near.{isNear}
 use Rattle.arcstring_check.specs.Answer.{Answer, answered, unlessRefused, pick}
 use Rattle.arcstring.specs.Points.{ArcString, points}
 use Rattle.arcstring_check.specs.Check.{storedCheck, pointCheck}
 use Rattle.arcstring.specs.Leg.{Leg, legs}
 use Rattle.arcstring_along.specs.declared.inner.along.Found.{Found}
 use Rattle.arcstring_along.specs.declared.inner.along.Found.the-variants.{At, Nothing}
-
--- (dx·dx + dy·dy) + dz·dz
-unfoldable pub squaredDistance : SphericalPoint → SphericalPoint → Float
-squaredDistance p e = xyzSum (xyzMul (xyzSub p e) (xyzSub p e))
-
-unfoldable pub isNear : SphericalPoint → SphericalPoint → Bool
-isNear p e = lt (squaredDistance p e) equalityTolerance
 
 abbrev pub next : Option ℕ → Option ℕ
 next none = none

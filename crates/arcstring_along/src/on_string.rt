@@ -1,6 +1,6 @@
 // Whether a point is along a string.
 ghost use mathlib.Core.Path.{_≡_};
-ghost use Rattle.arcstring.specs.Point.{decidedAnswer};
+ghost use Rattle.arcstring_check.specs.Answer.{decidedAnswer};
 ghost use Rattle.arcstring_along.specs.OnString.{along};
 use crate::inner::along;
 use arcstring_check::check::Checked;

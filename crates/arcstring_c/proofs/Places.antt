@@ -13,7 +13,8 @@ use Rattle.arcstring_pair.specs.Pair.{Judged}
 use Rattle.arcstring_tally.specs.declared.counts.Counts.{Counts}
 use Rattle.arcstring_listing.specs.Listing.{Listing, listedResult}
 use Rattle.arcstring_split_leg.specs.SplitLeg.{pieceCount}
-use Rattle.arcstring_put.specs.Put.{answerNumber, leftIn, builtCount, builtFlag, listedKept, listedCounts, pieceNumber, classByte, keptByte, pointPlace}
+use Rattle.arcstring_put.specs.Put.{answerNumber, leftIn, builtCount, builtFlag}
+use Rattle.arcstring_put_found.specs.PutFound.{listedKept, listedCounts, pieceNumber, classByte, keptByte, pointPlace}
 use Rattle.arcstring_c.specs.Numbers.{vertexCount, closedByte, keptCount, listingCounts, piecesWritten}
 
 -- ---- where the answer b is the answer a

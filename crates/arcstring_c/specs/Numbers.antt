@@ -9,7 +9,7 @@ use Rattle.arcstring_check.specs.Answer.{pick, flagNumber}
 use Rattle.arcstring.specs.Points.{StringOf}
 use Rattle.arcstring_walk.specs.Walk.{runOf}
 use Rattle.arcstring_listing.specs.Listing.{Listing}
-use Rattle.arcstring_put.specs.Put.{fourCounts}
+use Rattle.arcstring_put_found.specs.PutFound.{fourCounts}
 
 -- ---- a built string
 

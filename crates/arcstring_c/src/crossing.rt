@@ -1,10 +1,11 @@
 // The call that judges a pair of legs.
 ghost use mathlib.Core.Path.{_≡_};
 ghost use Rattle.arcstring_pair.specs.Pair.{arcsCrossing};
-ghost use Rattle.arcstring_put.specs.Put.{answerNumber, leftIn, legOfSix, classByte, keptByte, pointPlace};
+ghost use Rattle.arcstring_put.specs.Put.{answerNumber, leftIn, legOfSix};
+ghost use Rattle.arcstring_put_found.specs.PutFound.{classByte, keptByte, pointPlace};
 use arcstring_crossing::crossing;
 use arcstring_put::inner::lent;
-use arcstring_put::inner::pair;
+use arcstring_put_found::inner::pair;
 
 #[no_mangle]
 pub extern "C" fn arcstring_pair(

@@ -1,15 +1,17 @@
-// The calls that count and list crossings, of two strings, of a leg and a string, and of a string with itself.
+// The calls that count and list crossings, of two strings, and of a leg and a string.
 ghost use mathlib.Core.Path.{_≡_};
 ghost use lib.ListN.{length};
 ghost use Rattle.arcstring_check.specs.Answer.{leaves, flagNumber};
 ghost use Rattle.arcstring.specs.Points.{point};
 ghost use Rattle.arcstring.specs.Leg.{leg};
-ghost use Rattle.arcstring_listing.specs.Listing.{counted, crossings, legCrossings, selfCrossings, crossesSelf, sameSide, listedFloats, listedBytes};
-ghost use Rattle.arcstring_put.specs.Put.{answerNumber, leftIn, flag, legOfSix, fourCounts};
+ghost use Rattle.arcstring_listing.specs.Listing.{counted, crossings, legCrossings, sameSide, listedFloats, listedBytes};
+ghost use Rattle.arcstring_put.specs.Put.{answerNumber, leftIn, flag, legOfSix};
+ghost use Rattle.arcstring_put_found.specs.PutFound.{fourCounts};
 ghost use Rattle.arcstring_c.specs.Numbers.{keptCount, listingCounts};
 use arcstring_listing::listing;
 use arcstring_put::inner::lent;
 use arcstring_put::inner::put;
+use arcstring_put_found::inner::found;
 use sphericalpoint::SphericalPoint;
 
 #[no_mangle]
@@ -25,7 +27,7 @@ pub extern "C" fn arcstring_count(
         (now (counts .entry)) ⌝ }
 {
     let r = listing::count(a, lent::is_closed(a_closed), b, lent::is_closed(b_closed));
-    put::put_counts(r, counts)
+    found::put_counts(r, counts)
 }
 
 #[no_mangle]
@@ -55,7 +57,7 @@ pub extern "C" fn arcstring_leg_crossings(
 {
     let arc = lent::leg_of_six(leg);
     let r = listing::arc_crossings_with_arcstring(arc, v, lent::is_closed(closed), points, marks);
-    put::put_listing(r, kept, counts)
+    found::put_listing(r, kept, counts)
 }
 
 #[no_mangle]
@@ -87,37 +89,7 @@ pub extern "C" fn arcstring_crossings(
     let first = lent::is_closed(a_closed);
     let second = lent::is_closed(b_closed);
     let r = listing::crossings(a, first, b, second, points, marks);
-    put::put_listing(r, kept, counts)
-}
-
-#[no_mangle]
-pub extern "C" fn arcstring_crossings_with_self(
-    v: &[f64],
-    points: &mut [f64],
-    marks: &mut [u8],
-    kept: &mut usize,
-    counts: &mut [u64; 4],
-) -> u32
-    ensures { λ r. ⌜ r ≡ answerNumber (selfCrossings (now (v .entry)) (length (now (points .entry))) (length (now (marks .entry)))) ⌝ }
-    ensures { λ _. ⌜ now (points .exit) ≡ leaves (listedFloats (selfCrossings (now (v .entry)) (length (now (points .entry))) (length (now (marks .entry)))))
-        (now (points .entry)) ⌝ }
-    ensures { λ _. ⌜ now (marks .exit) ≡ leaves (listedBytes (selfCrossings (now (v .entry)) (length (now (points .entry))) (length (now (marks .entry)))))
-        (now (marks .entry)) ⌝ }
-    ensures { λ _. ⌜ now (kept .exit) ≡ leftIn keptCount (selfCrossings (now (v .entry)) (length (now (points .entry))) (length (now (marks .entry))))
-        (now (kept .entry)) ⌝ }
-    ensures { λ _. ⌜ now (counts .exit) ≡ leftIn listingCounts (selfCrossings (now (v .entry)) (length (now (points .entry))) (length (now (marks .entry))))
-        (now (counts .entry)) ⌝ }
-{
-    let r = listing::crossings_with_self(v, points, marks);
-    put::put_listing(r, kept, counts)
-}
-
-#[no_mangle]
-pub extern "C" fn arcstring_crosses_self(v: &[f64], closed: u8, yes: &mut u8) -> u32
-    ensures { λ r. ⌜ r ≡ answerNumber (crossesSelf (now (v .entry)) (flag closed)) ⌝ }
-    ensures { λ _. ⌜ now (yes .exit) ≡ leftIn flagNumber (crossesSelf (now (v .entry)) (flag closed)) (now (yes .entry)) ⌝ }
-{
-    put::put_verdict(listing::crosses_self(v, lent::is_closed(closed)), yes)
+    found::put_listing(r, kept, counts)
 }
 
 #[no_mangle]

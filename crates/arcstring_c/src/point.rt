@@ -2,9 +2,9 @@
 ghost use mathlib.Core.Path.{_≡_};
 ghost use Rattle.arcstring_check.specs.Answer.{flagNumber};
 ghost use Rattle.arcstring.specs.Points.{point};
-ghost use Rattle.arcstring.specs.Point.{equalPoints, coplanarPoints, builtPoint};
+ghost use Rattle.arcstring_point.specs.Point.{equalPoints, coplanarPoints, builtPoint};
 ghost use Rattle.arcstring_put.specs.Put.{answerNumber, leftIn, threeFloats};
-use arcstring::point;
+use arcstring_point::point;
 use arcstring_put::inner::put;
 use sphericalpoint::SphericalPoint;
 

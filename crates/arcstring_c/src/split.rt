@@ -7,7 +7,7 @@ ghost use Rattle.arcstring_split.specs.Split.{splitString, pieceFloats, pieceBu
 ghost use Rattle.arcstring_put.specs.Put.{answerNumber, leftIn, flag};
 ghost use Rattle.arcstring_c.specs.Numbers.{piecesWritten};
 use arcstring_put::inner::lent;
-use arcstring_put::inner::put;
+use arcstring_put_found::inner::found;
 use arcstring_split::split;
 
 #[no_mangle]
@@ -55,5 +55,5 @@ pub extern "C" fn arcstring_split(
         counts,
         flags,
     );
-    put::put_pieces(r, pieces)
+    found::put_pieces(r, pieces)
 }

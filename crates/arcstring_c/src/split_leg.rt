@@ -6,7 +6,7 @@ ghost use Rattle.arcstring_split_leg.specs.SplitLeg.{splitLeg, ofPieces, legFlo
 ghost use Rattle.arcstring_put.specs.Put.{answerNumber, leftIn, legOfSix};
 ghost use Rattle.arcstring_c.specs.Numbers.{piecesWritten};
 use arcstring_put::inner::lent;
-use arcstring_put::inner::put;
+use arcstring_put_found::inner::found;
 use arcstring_split_leg::split;
 
 #[no_mangle]
@@ -23,5 +23,5 @@ pub extern "C" fn arcstring_split_leg(
         (now (pieces .entry)) ⌝ }
 {
     let r = split::split_arc_at_points(lent::leg_of_six(leg), points, out);
-    put::put_pieces(r, pieces)
+    found::put_pieces(r, pieces)
 }

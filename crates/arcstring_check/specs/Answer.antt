@@ -3,6 +3,8 @@ use mathlib.Core.Bool.{Bool, true, false}
 use mathlib.Core.List.{List, _++_}
 use Prim.Native.Nat.{ℕ, zero, suc}
 use lib.ListN.{length, drop}
+use Rattle.arcstring_check.specs.declared.check.Decided.{Decided}
+use Rattle.arcstring_check.specs.declared.check.Decided.the-variants as D
 use Rattle.arcstring_check.specs.declared.check.Refusal.{Refusal}
 use Rattle.arcstring_check.specs.declared.check.Refusal.the-variants.{NotTriples, TooFewPoints, TooManyPoints, OutOfRange, RemovesPastEnd, ReadsPastEnd}
 use Rattle.arcstring_check.specs.declared.check.Refusal.the-variants.{NoRoom, BuoysNotAsMany}
@@ -21,6 +23,11 @@ refusalNumber BuoysNotAsMany = 10
 pub data Answer (A : Type 0) : Type 0 where
   refused : ℕ → Answer A
   answered : A → Answer A
+
+-- what a call that decides something answers
+abbrev pub decidedAnswer : Decided → Answer Bool
+decidedAnswer (D.Verdict b) = answered b
+decidedAnswer (D.Refused e) = refused (refusalNumber e)
 
 -- A check gives the number of a refusal, or 0 where there is none.
 abbrev pub numberIf : Bool → ℕ → ℕ

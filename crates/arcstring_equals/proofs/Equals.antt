@@ -13,7 +13,7 @@ use Rattle.arcstring.specs.Points.{ArcString, points, copied}
 use Rattle.arcstring.proofs.Flat.{count-points}
 use Rattle.arcstring_check.proofs.Answers.{then-refused, then-answered}
 use Rattle.arcstring_along.specs.OnString.{stored}
-use Rattle.arcstring_relation.specs.Relation.{equalStrings}
+use Rattle.arcstring_against.specs.Against.{equalStrings}
 use Rattle.arcstring_equals.specs.Simplified.{orElse, simplifiedString, equalsLonger, equalsSimplified, equalsString, sameSimplified, overlapsApart}
 use Rattle.arcstring_equals.specs.Simplified.{overlapsString}
 

@@ -11,7 +11,7 @@ use Rattle.arcstring_check.specs.Answer.{Answer, refused, answered, pick}
 use Rattle.arcstring.specs.Points.{ArcString, points, pointAt}
 use Rattle.arcstring.proofs.Flat.{points-next, length-points}
 use Rattle.arcstring_along.specs.OnString.{alongString, stored}
-use Rattle.arcstring_relation.specs.Relation.{allAlong, withinString}
+use Rattle.arcstring_against.specs.Against.{allAlong, withinString}
 use Rattle.arcstring_equals.specs.Simplified.{orElse, overlapLegs, overlapsApart}
 
 module _ (other : ArcString) (closed : Bool) (v : List Float) (n : ℕ) (whole : length v ≡ 3 * n) (k : ℕ) where

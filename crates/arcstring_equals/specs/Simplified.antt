@@ -8,7 +8,7 @@ use Rattle.sphericalpoint.specs.declared.SphericalPoint.{SphericalPoint}
 use Rattle.arcstring_check.specs.Answer.{Answer, refused, answered, mapAnswer, andThen, pick}
 use Rattle.arcstring.specs.Points.{itself, ArcString, copied}
 use Rattle.arcstring_along.specs.OnString.{alongString, stored}
-use Rattle.arcstring_relation.specs.Relation.{equalStrings, withinString, twoStrings}
+use Rattle.arcstring_against.specs.Against.{equalStrings, withinString, twoStrings}
 use Rattle.arcstring_rounds.specs.Rounds.{simplified}
 
 -- simplified, with near list and flag carried over

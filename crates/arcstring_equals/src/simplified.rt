@@ -3,18 +3,18 @@
 ghost use mathlib.Core.Path.{_≡_};
 ghost use Rattle.arcstring.specs.Points.{points};
 ghost use Rattle.arcstring_check.specs.Check.{storedCheck};
-ghost use Rattle.arcstring.specs.Point.{decidedAnswer};
+ghost use Rattle.arcstring_check.specs.Answer.{decidedAnswer};
 ghost use Rattle.arcstring_along.specs.OnString.{stored};
 ghost use Rattle.arcstring_equals.specs.Simplified.{equalsLonger, equalsSimplified, equalsString, overlapLegs, overlapsApart, sameSimplified};
 ghost use Rattle.arcstring_equals.specs.Simplified as Relation;
 use arcstring::inner::vertex;
+use arcstring_against::inner;
 use arcstring_along::inner::along;
 use arcstring_check::check::Checked;
 use arcstring_check::check::Decided;
 use arcstring_check::check::MOST_FLOATS;
 use arcstring_check::check::Refusal;
 use arcstring_check::check::Written;
-use arcstring_relation::inner;
 
 // A simplified copy of the shorter string, as it stands in `short` with the near list `short_near`, against the longer, and
 // then against a simplified copy of the longer.

@@ -1,5 +1,5 @@
 -- Bounds on how much the pairs of two strings keep, over plain variables: among all that a need knows they take long to find. Assumes nothing.
-use Prim.Native.Nat.{ℕ, _*_, _/_, _≤_}
+use Prim.Native.Nat.{ℕ, _*_, _≤_}
 use native.Mathlib.Omega.{arith}
 use mir.Syntax.{w64}
 use mir.Val.{Fits}
@@ -11,12 +11,5 @@ pairs-fit p h = omega arith
 pub points-fit : (p : ℕ) → p ≤ mostPairs → Fits w64 (3 * p)
 points-fit p h = omega arith
 
-pub half-points-fit : (p : ℕ) → p ≤ mostPairs → Fits w64 (3 * (p / 2))
-half-points-fit p h = omega arith
-
 pub points-held : (k p room : ℕ) → k ≤ p → 3 * p ≤ room → 3 * k ≤ room
 points-held k p room h r = omega arith
-
--- of a string with itself each pair is counted twice
-pub half-held : (k p : ℕ) → k * 2 ≤ p → k ≤ p / 2
-half-held k p h = omega arith

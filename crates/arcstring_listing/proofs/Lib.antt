@@ -1,4 +1,4 @@
--- The laws of listings. All serve the functions' proofs.
-mod Bounds
-mod Listings
-mod Visits
+-- The laws of listings: for the functions' proofs, here and of the self listing.
+pub mod Bounds
+pub mod Listings
+pub mod Visits

@@ -2,8 +2,7 @@
 use mathlib.Core.Path.{_≡_, refl, ap, ap₂, _∙_}
 use mathlib.Core.Bool.{Bool, true, false, not, _&&_}
 use mathlib.Core.List.{List, [], _∷_, map, append-nil}
-use Prim.Native.Nat.{ℕ, _/_, _-_, _*_, _<_, _≤_}
-use native.Mathlib.Nat.{mul-zero}
+use Prim.Native.Nat.{ℕ, _/_, _-_, _*_, _≤_}
 use native.Mathlib.Omega.{arith}
 use lib.ListN.{length}
 use lib.Ieee.{Float}
@@ -13,22 +12,16 @@ use Rattle.arcstring.specs.Points.{points, flat}
 use Rattle.arcstring_check.specs.Check.{inRange, allInRange, pointCheck, listCheck, storedCheck}
 use Rattle.arcstring_check.proofs.Answers.{first-passes, second-passes}
 use Rattle.arcstring_check.proofs.Checks.{stored-whole}
-use Rattle.arcstring.proofs.Flat.{count-points}
 use Rattle.arcstring.specs.Leg.{Leg, legCheck, legs, legsFrom, legCount, legFloats}
 use Rattle.arcstring_pair.specs.Pair.{pairOf}
 use Rattle.arcstring.proofs.Legs.{legs-whole}
-use Rattle.arcstring_tally.specs.Pairs.{pairsBetween, pairsWithin, keptMarks}
-use Rattle.arcstring_listing.specs.Listing.{visited, legPairs, selfPairs}
-use Rattle.arcstring_visit.proofs.Rows.{length-self, kept-between}
-use Rattle.arcstring_tally.proofs.Tallies.{kept-bound}
+use Rattle.arcstring_tally.specs.Pairs.{pairsBetween, keptMarks}
+use Rattle.arcstring_listing.specs.Listing.{visited, legPairs}
+use Rattle.arcstring_visit.proofs.Rows.{kept-between}
 
 module _ (v : List Float) (closed : Bool) (l : ℕ) (accepted : storedCheck v ≡ 0) (count : l ≡ legCount (length v / 3) closed) where
-  all-legs : legsFrom v 0 l ≡ legs (points v) closed
+  pub all-legs : legsFrom v 0 l ≡ legs (points v) closed
   all-legs = ap (legsFrom v 0) count ∙ legs-whole v (length v / 3) closed (stored-whole v accepted .triples)
-
-  pub self-visits : pairsWithin (legsFrom v 0 l) ≡ selfPairs v closed
-  unfolding selfPairs
-  self-visits = ap pairsWithin all-legs
 
 pub two-visits : (a : List Float) (a-closed : Bool) (la : ℕ) (b : List Float) (b-closed : Bool) (lb : ℕ) → storedCheck a ≡ 0 → la
     ≡ legCount (length a / 3) a-closed
@@ -40,20 +33,6 @@ pub kept-two : (a : List Float) (a-closed : Bool) (la : ℕ) (b : List Float) (b
     ≡ legCount (length a / 3) a-closed
     → storedCheck b ≡ 0 → lb ≡ legCount (length b / 3) b-closed → length (keptMarks (visited a a-closed b b-closed)) ≤ la * lb
 kept-two a a-closed la b b-closed lb oka ca okb cb = rw (← two-visits a a-closed la b b-closed lb oka ca okb cb) (kept-between a b la lb)
-
--- twice as many points as a string's pairs with itself keep
-pub kept-self : (v : List Float) → length (keptMarks (selfPairs v false)) * 2 ≤ (length v / 3 - 2) * (length v / 3 - 3)
-unfolding selfPairs
-kept-self v =
-    let ps = pairsWithin (legs (points v) false) in
-    let e : length ps * 2 ≡ (length v / 3 - 2) * (length v / 3 - 3) = length-self (points v) ∙ ap (λ (k : ℕ). (k - 2) * (k - 3)) (count-points v) in
-    omega (arith, kept-bound ps, e)
-
-pub kept-few : (v : List Float) → length v / 3 < 4 → length (keptMarks (selfPairs v false)) ≡ 0
-kept-few v h =
-    let z : length v / 3 - 3 ≡ 0 = omega arith in
-    let e : (length v / 3 - 2) * (length v / 3 - 3) ≡ 0 = ap (λ (k : ℕ). (length v / 3 - 2) * k) z ∙ mul-zero (length v / 3 - 2) in
-    omega (arith, kept-self v, e)
 
 -- ---- a leg as a string of two vertices
 

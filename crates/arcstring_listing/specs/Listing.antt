@@ -1,11 +1,10 @@
--- The counts of the pairs that two strings have, and the listings of what they keep; of a leg and a string, and of a string with itself. Definitions only.
-use mathlib.Core.Bool.{Bool, false, _&&_}
+-- The counts of the pairs that two strings have, and the listings of what they keep; and of a leg and a string. Definitions only.
+use mathlib.Core.Bool.{Bool}
 use mathlib.Core.List.{List, map}
 use Prim.Native.Nat.{ℕ, _*_, _%_}
 use lib.ListN.{length}
-use lib.Dec.{leb, eqb, ltb}
+use lib.Dec.{eqb}
 use lib.Ieee.{Float}
-use Rattle.sphericalpoint.specs.Point.{normalizedUnlessShort}
 use Rattle.arcstring_check.specs.Answer.{Answer, refused, answered, unlessRefused, mapAnswer, refusalNumber}
 use Rattle.arcstring.specs.Points.{points, flat}
 use Rattle.arcstring_check.specs.Check.{storedCheck, roomCheck}
@@ -13,7 +12,7 @@ use Rattle.arcstring_pair.specs.declared.pair.Pair.{Pair}
 use Rattle.arcstring.specs.Leg.{Leg, legCheck, legs}
 use Rattle.arcstring_pair.specs.Pair.{pairOf}
 use Rattle.arcstring_tally.specs.declared.counts.Counts.{Counts}
-use Rattle.arcstring_tally.specs.Pairs.{pairsBetween, pairsWithin, countsOf, Mark, keptMarks, markPoint, markByte}
+use Rattle.arcstring_tally.specs.Pairs.{pairsBetween, countsOf, Mark, keptMarks, markPoint, markByte}
 use Rattle.arcstring_listing.specs.declared.listing.Counted.{Counted}
 use Rattle.arcstring_listing.specs.declared.listing.Counted.the-variants as C
 use Rattle.arcstring_listing.specs.declared.listing.Listed.{Listed}
@@ -27,10 +26,6 @@ pub record Listing : Type 0 where
 
 unfoldable pub listingOf : List Pair → Listing
 listingOf ps = record { marks = keptMarks ps; counts = countsOf ps }
-
--- the listing of a string with itself has its kept points normalised
-unfoldable pub normalizedListing : Listing → Listing
-normalizedListing l = record { marks = map (λ (m : Mark). record { point = normalizedUnlessShort (m .point); byte = m .byte }) (l .marks); counts = l .counts }
 
 -- 7 where the kept points or their marks are longer than the buffers lent for them, of so many floats and so many bytes
 unfoldable pub inRoom : Listing → ℕ → ℕ → Answer Listing
@@ -61,20 +56,6 @@ legCrossings l v closed pointsRoom marksRoom =
 -- whether two points are on the same side: the leg between them has an even number of kept points with the string
 unfoldable pub sameSide : Leg → List Float → Bool → Answer Bool
 sameSide l v closed = unlessRefused (legCheck l) (unlessRefused (storedCheck v) (answered (eqb (length (keptMarks (legPairs l v closed)) % 2) 0)))
-
--- the pairs of a string's legs with those after the next one
-unfoldable pub selfPairs : List Float → Bool → List Pair
-selfPairs v closed = pairsWithin (legs (points v) closed)
-
--- A string against itself: legs i and j with i + 2 ≤ j ≤ n - 2, so that the closing leg of a closed string is not visited. Below n = 4 there are no such pairs.
-unfoldable pub selfCrossings : List Float → ℕ → ℕ → Answer Listing
-selfCrossings v pointsRoom marksRoom =
-    unlessRefused (storedCheck v) (inRoom (normalizedListing (listingOf (selfPairs v false))) pointsRoom marksRoom)
-
--- `crosses_self` also visits the closing leg of a closed string, and it too answers no below n = 4
-unfoldable pub crossesSelf : List Float → Bool → Answer Bool
-crossesSelf v closed =
-    unlessRefused (storedCheck v) (answered (leb 4 (length (points v)) && ltb 0 (length (keptMarks (selfPairs v closed)))))
 
 -- ---- what is answered, and what is written
 

@@ -1,11 +1,14 @@
-// The pairs of two strings counted, for the calls of this crate and of the comparisons.
+// The pairs of two strings counted, and the room of a listing checked: for the calls of this crate, the self listing and the comparisons.
 ghost use mathlib.Core.Path.{_≡_};
-ghost use Prim.Native.Nat.{_≤_};
-ghost use Rattle.arcstring_check.specs.Check.{storedCheck};
+ghost use Prim.Native.Nat.{_*_, _≤_};
+ghost use Rattle.arcstring_check.specs.Answer.{firstOf};
+ghost use Rattle.arcstring_check.specs.Check.{checkNumber, storedCheck, roomCheck};
 ghost use Rattle.arcstring_visit.specs.Visit.{mostPairs};
 ghost use Rattle.arcstring_tally.specs.Tally.{noTally, tallyOn};
 ghost use Rattle.arcstring_listing.specs.Listing.{visited};
 use arcstring::inner::leg;
+use arcstring_check::check::Checked;
+use arcstring_check::inner::checks;
 use arcstring_tally::inner::tally::Tally;
 use arcstring_visit::inner::walk;
 
@@ -23,5 +26,16 @@ pub fn tally_two(a: &[f64], a_closed: bool, b: &[f64], b_closed: bool) -> Tally
         b,
         nb,
         leg::leg_count(nb, b_closed),
+    )
+}
+
+// Whether so many kept points and their marks fit the buffers.
+pub fn check_buffers(kept: usize, points: usize, marks: usize) -> Checked
+    requires { ⌜ kept ≤ mostPairs ⌝ }
+    ensures { λ r. ⌜ checkNumber r ≡ firstOf (roomCheck (3 * kept) points) (roomCheck kept marks) ⌝ }
+{
+    checks::first_of(
+        checks::check_room(3 * kept, points),
+        checks::check_room(kept, marks),
     )
 }

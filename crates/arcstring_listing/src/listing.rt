@@ -1,26 +1,22 @@
-// The crossings and the four counts of two strings, of a leg and a string, and of a string with itself. The kept
-// points are the source's, each with a mark byte: 1 clean, 0 grazing.
+// The crossings and the four counts of two strings, and of a leg and a string. The kept points are the source's, each with a
+// mark byte: 1 clean, 0 grazing.
 ghost use mathlib.Core.Path.{_≡_};
-ghost use mathlib.Core.Bool.{true, false};
+ghost use mathlib.Core.Bool.{true};
 ghost use mathlib.Core.List.{map};
 ghost use Prim.Native.Nat.{_*_, _≤_};
 ghost use lib.ListN.{length};
-ghost use Rattle.arcstring_check.specs.Answer.{firstOf, leaves};
+ghost use Rattle.arcstring_check.specs.Answer.{leaves, decidedAnswer};
 ghost use Rattle.arcstring.specs.Points.{flat};
 ghost use Rattle.arcstring.specs.Splice.{splice};
-ghost use Rattle.arcstring_check.specs.Check.{checkNumber, storedCheck, roomCheck};
-ghost use Rattle.arcstring_build.specs.Build.{normalizedAll};
-ghost use Rattle.arcstring.specs.Point.{decidedAnswer};
+ghost use Rattle.arcstring_check.specs.Check.{storedCheck};
 ghost use Rattle.arcstring.specs.Leg.{leg, legOf, legCheck};
 ghost use Rattle.arcstring_tally.specs.Pairs.{keptMarks, markPoint, markByte};
-ghost use Rattle.arcstring_listing.specs.Listing.{listingOf, inRoom, visited, legPairs, selfPairs, counted, legCrossings, selfCrossings, crossesSelf};
-ghost use Rattle.arcstring_listing.specs.Listing.{sameSide, countedAnswer, listedAnswer, listedResult, listedFloats, listedBytes};
+ghost use Rattle.arcstring_listing.specs.Listing.{listingOf, inRoom, visited, legPairs, counted, legCrossings, sameSide};
+ghost use Rattle.arcstring_listing.specs.Listing.{countedAnswer, listedAnswer, listedResult, listedFloats, listedBytes};
 ghost use Rattle.arcstring_listing.specs.Listing as Listing;
-ghost use Rattle.arcstring_visit.specs.Visit.{mostPairs};
 ghost use Rattle.arcstring_tally.specs.Tally.{noTally, tallyOn};
 use crate::inner;
 use arcstring::inner::leg;
-use arcstring_build::build;
 use arcstring_check::check::Checked;
 use arcstring_check::check::Decided;
 use arcstring_check::check::Refusal;
@@ -112,17 +108,6 @@ fn holds_all(
     false
 }
 
-// Whether so many kept points and their marks fit the buffers.
-fn check_buffers(kept: usize, points: usize, marks: usize) -> Checked
-    requires { ⌜ kept ≤ mostPairs ⌝ }
-    ensures { λ r. ⌜ checkNumber r ≡ firstOf (roomCheck (3 * kept) points) (roomCheck kept marks) ⌝ }
-{
-    checks::first_of(
-        checks::check_room(3 * kept, points),
-        checks::check_room(kept, marks),
-    )
-}
-
 // The four counts of the pairs of every leg of the first string with every leg of the second.
 // Refuses by 1, 3 and 4 of the first string's vertices, then of the second's.
 pub fn count(a: &[f64], a_closed: bool, b: &[f64], b_closed: bool) -> Counted
@@ -160,7 +145,7 @@ fn list_two(
         return Listed::Listing(t.kept, tally::counts_of(t));
     }
     let t = inner::tally_two(a, a_closed, b, b_closed);
-    let room = check_buffers(t.kept, points.len(), marks.len());
+    let room = inner::check_buffers(t.kept, points.len(), marks.len());
     if let Checked::Refused(e) = room {
         return Listed::Refused(e);
     }
@@ -247,101 +232,4 @@ pub fn points_are_on_same_side(
     }
     let t = tally_leg(arc, v, closed);
     Decided::Verdict(t.kept % 2 == 0)
-}
-
-// An accepted string against itself, counted, its closing leg too where it is taken as closed.
-fn tally_self(v: &[f64], closed: bool) -> Tally
-    requires { ⌜ storedCheck (now v) ≡ 0 ⌝ }
-    ensures { λ r. ⌜ (r ≡ tallyOn noTally (selfPairs (now (v .entry)) closed)) × (r .kept ≤ mostPairs) ⌝ }
-{
-    let n = v.len() / 3;
-    walk::count_within(v, n, leg::leg_count(n, closed))
-}
-
-// An accepted string's pairs with itself, counted, and what they keep written and then normalised in place.
-fn visit_self(v: &[f64], points: &mut [f64], marks: &mut [u8]) -> Tally
-    requires { ⌜ storedCheck (now v) ≡ 0 ⌝ }
-    requires { ⌜ (3 * length (keptMarks (selfPairs (now v) false)) ≤ length (now points))
-        × (length (keptMarks (selfPairs (now v) false)) ≤ length (now marks)) ⌝ }
-    ensures { λ r. ⌜ r ≡ tallyOn noTally (selfPairs (now (v .entry)) false) ⌝ }
-    ensures { λ _. ⌜ now (points .exit) ≡ splice (now (points .entry)) 0 (flat (normalizedAll
-        (map markPoint (keptMarks (selfPairs (now (v .entry)) false))))) ⌝ }
-    ensures { λ _. ⌜ now (marks .exit) ≡ splice (now (marks .entry)) 0 (map markByte (keptMarks (selfPairs (now (v .entry)) false))) ⌝ }
-{
-    let n = v.len() / 3;
-    let t = walk::visit(v, n, n - 1, v, n, n - 1, true, true, points, marks);
-    arcstring_build::inner::normalize_points(points, t.kept);
-    t
-}
-
-// What an accepted string's pairs with itself keep, written and normalised. Where they keep nothing there is no walk.
-fn write_self(v: &[f64], kept: usize, points: &mut [f64], marks: &mut [u8])
-    requires { ⌜ (storedCheck (now v) ≡ 0) × (kept ≡ length (keptMarks (selfPairs (now v) false))) ⌝ }
-    requires { ⌜ (3 * kept ≤ length (now points)) × (kept ≤ length (now marks)) ⌝ }
-    ensures { λ _. ⌜ now (points .exit) ≡ splice (now (points .entry)) 0 (flat (normalizedAll
-        (map markPoint (keptMarks (selfPairs (now (v .entry)) false))))) ⌝ }
-    ensures { λ _. ⌜ now (marks .exit) ≡ splice (now (marks .entry)) 0 (map markByte (keptMarks (selfPairs (now (v .entry)) false))) ⌝ }
-{
-    if kept == 0 {
-        return;
-    }
-    let t = visit_self(v, points, marks);
-}
-
-// Whether buffers of so many floats and so many bytes hold a point and a mark of every pair of an accepted string with
-// itself.
-fn holds_self(v: &[f64], points: usize, marks: usize) -> bool
-    requires { ⌜ storedCheck (now v) ≡ 0 ⌝ }
-    ensures { λ r. ⌜ (r ≡ true → (3 * length (keptMarks (selfPairs (now (v .entry)) false)) ≤ points)
-        × (length (keptMarks (selfPairs (now (v .entry)) false)) ≤ marks)) ⌝ }
-{
-    let n = v.len() / 3;
-    if n < 4 {
-        return true;
-    }
-    let pairs = (n - 2) * (n - 3) / 2;
-    if 3 * pairs <= points {
-        return pairs <= marks;
-    }
-    false
-}
-
-// The kept points of a string with itself, normalised, their marks and the four counts: legs i and j with
-// i + 2 <= j <= n - 2, so the closing leg of a closed string is not visited.
-// Refuses by 1, 3 and 4 of the vertices, and by 7.
-pub fn crossings_with_self(v: &[f64], points: &mut [f64], marks: &mut [u8]) -> Listed
-    ensures { λ r. ⌜ listedAnswer r ≡ listedResult (selfCrossings (now (v .entry)) (length (now (points .entry))) (length (now (marks .entry)))) ⌝ }
-    ensures { λ _. ⌜ now (points .exit) ≡ leaves (listedFloats (selfCrossings (now (v .entry)) (length (now (points .entry))) (length (now (marks .entry)))))
-        (now (points .entry)) ⌝ }
-    ensures { λ _. ⌜ now (marks .exit) ≡ leaves (listedBytes (selfCrossings (now (v .entry)) (length (now (points .entry))) (length (now (marks .entry)))))
-        (now (marks .entry)) ⌝ }
-{
-    let checked = checks::check_stored(v);
-    if let Checked::Refused(e) = checked {
-        return Listed::Refused(e);
-    }
-    if holds_self(v, points.len(), marks.len()) {
-        let t = visit_self(v, points, marks);
-        return Listed::Listing(t.kept, tally::counts_of(t));
-    }
-    let t = tally_self(v, false);
-    let room = check_buffers(t.kept, points.len(), marks.len());
-    if let Checked::Refused(e) = room {
-        return Listed::Refused(e);
-    }
-    write_self(v, t.kept, points, marks);
-    Listed::Listing(t.kept, tally::counts_of(t))
-}
-
-// Whether a string crosses itself, its closing leg visited too, also against leg 0; no below 4 vertices.
-// Refuses by 1, 3 and 4 of the vertices.
-pub fn crosses_self(v: &[f64], closed: bool) -> Decided
-    ensures { λ r. ⌜ decidedAnswer r ≡ crossesSelf (now (v .entry)) closed ⌝ }
-{
-    let checked = checks::check_stored(v);
-    if let Checked::Refused(e) = checked {
-        return Decided::Refused(e);
-    }
-    let t = tally_self(v, closed);
-    Decided::Verdict((v.len() / 3 >= 4) & (t.kept > 0))
 }

@@ -9,7 +9,8 @@ use Rattle.arcstring_pair.specs.declared.pair.Pair.{Pair}
 use Rattle.arcstring_pair.specs.declared.pair.Pair.the-variants.{Clean, End, Grazing, Apart}
 use Rattle.arcstring_pair.specs.declared.pair.Outcome.{Outcome}
 use Rattle.arcstring_pair.specs.declared.pair.Outcome.the-variants.{Kept, Dropped, None}
-use Rattle.arcstring_pair.specs.Pair.{grazes, isAbove, isBelow, signNegative, signPositive, someSide, everySide, atEnd, keptOrDropped, grazingOutcome}
+use Rattle.arcstring_sides.specs.Sides.{grazes, isAbove, isBelow, signNegative, signPositive, someSide, everySide}
+use Rattle.arcstring_pair.specs.Pair.{atEnd, keptOrDropped, grazingOutcome}
 use Rattle.arcstring_pair.specs.Pair.{endOrClean, classAt}
 use Rattle.arcstring.specs.Leg.{Leg}
 

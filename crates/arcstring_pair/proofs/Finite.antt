@@ -21,7 +21,8 @@ use Rattle.sphericalpoint.specs.Vector.{xyzMul, xyzNeg, xyzSum, xyzDot, xyzCros
 use Rattle.arcstring_check.specs.Check.{inRange}
 use Rattle.arcstring_check.proofs.Checks.{range-bound}
 use Rattle.arcstring.specs.Leg.{Leg}
-use Rattle.arcstring_pair.specs.Pair.{normal, meeting, sideFrom, sideTo, sideValues, zeroFloat, grazes, isAbove, isBelow}
+use Rattle.arcstring_sides.specs.Sides.{zeroFloat, grazes, isAbove, isBelow}
+use Rattle.arcstring_pair.specs.Pair.{normal, meeting, sideFrom, sideTo, sideValues}
 use Rattle.arcstring_pair.specs.FiniteLaws.{EachAtMost, ExactlyOne, onlyFirst, onlySecond, onlyThird}
 
 -- ---- bounds on the size of a vector's coordinates

@@ -1,8 +1,7 @@
 -- The laws of pairs of legs. For others to cite: `PairLaws`, the theorems of `specs/PairLaws.antt`; `Finite` with `AcceptedLegs`; and what callers' proofs
--- need, `Classes`, `Aparts` and `Signs`.
+-- need, `Classes` and `Aparts`.
 pub mod PairLaws
 pub mod Finite
 pub mod AcceptedLegs
 pub mod Classes
 pub mod Aparts
-pub mod Signs

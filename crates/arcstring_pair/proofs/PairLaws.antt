@@ -15,12 +15,13 @@ use Rattle.arcstring_pair.specs.declared.pair.Pair.the-variants.{Clean, 
 use Rattle.arcstring_pair.specs.declared.pair.Outcome.{Outcome}
 use Rattle.arcstring_pair.specs.declared.pair.Outcome.the-variants.{Kept, Dropped, None}
 use Rattle.arcstring.specs.Leg.{Leg, legCheck}
-use Rattle.arcstring_pair.specs.Pair.{normal, meeting, sideFrom, sideTo, sideValues, grazes, isAbove, isBelow, signNegative, signPositive, someSide}
-use Rattle.arcstring_pair.specs.Pair.{everySide, atEnd, keptOrDropped, grazingOutcome, endOrClean, classAt, pairOf, Judged, judged, keptPoint}
+use Rattle.arcstring_sides.specs.Sides.{grazes, isAbove, isBelow, signNegative, signPositive, someSide, everySide}
+use Rattle.arcstring_pair.specs.Pair.{normal, meeting, sideFrom, sideTo, sideValues}
+use Rattle.arcstring_pair.specs.Pair.{atEnd, keptOrDropped, grazingOutcome, endOrClean, classAt, pairOf, Judged, judged, keptPoint}
 use Rattle.arcstring_pair.specs.Pair.{arcsCrossing}
 use Rattle.arcstring_pair.specs.FiniteLaws.{ExactlyOne, onlyFirst, onlySecond, onlyThird}
 use Rattle.arcstring_pair.specs.PairLaws.{rustCrossing, rustKept, answersEnd, InWords, PairsInWords, PairCallInWords, StringLegsAccepted, JudgedApart}
-use Rattle.arcstring_pair.proofs.Signs.{negative-of-other, positive-of-other}
+use Rattle.arcstring_sides.proofs.Signs.{negative-of-other, positive-of-other}
 use Rattle.arcstring_pair.proofs.Finite.{side-trichotomy}
 use Rattle.arcstring_pair.proofs.AcceptedLegs.{accepted-leg-in-range, accepted-legs-in-range, in-range-accepted}
 

@@ -8,7 +8,8 @@ use lib.Ieee.{Float}
 use Rattle.ieee754.specs.Bound.{AtMost}
 use Rattle.sphericalpoint.specs.declared.SphericalPoint.{SphericalPoint}
 use Rattle.arcstring.specs.Leg.{Leg, legCheck}
-use Rattle.arcstring_pair.specs.Pair.{meeting, sideValues, grazes, isAbove, isBelow}
+use Rattle.arcstring_sides.specs.Sides.{grazes, isAbove, isBelow}
+use Rattle.arcstring_pair.specs.Pair.{meeting, sideValues}
 
 -- each coordinate is finite, and its size is at most 2 ^ k
 pub record EachAtMost (k : ℕ) (u : SphericalPoint) : Type 0 where

@@ -1,14 +1,14 @@
 -- The class of a pair of legs, as document 01 defines it over the Rust's `arcs_crossing`. Definitions only.
-use mathlib.Core.Bool.{Bool, true, false, not, _&&_, _||_}
+use mathlib.Core.Bool.{Bool, true, false, _||_}
 use mathlib.Core.List.{List, [], _∷_}
 use mathlib.Core.Option.{Option, none, some}
 use Prim.Native.Nat.{ℕ}
-use lib.IntN.{pos}
-use lib.Ieee.{Float, nan, inf, fin, lt, eq}
+use lib.Ieee.{Float}
 use Rattle.sphericalpoint.specs.declared.SphericalPoint.{SphericalPoint}
 use Rattle.sphericalpoint.specs.Vector.{xyzCross, xyzDot, xyzNeg, xyzEq}
 use Rattle.arcstring_check.specs.Answer.{Answer, answered, unlessRefused, pick}
 use Rattle.arcstring.specs.Leg.{Leg, legCheck}
+use Rattle.arcstring_sides.specs.Sides.{grazes, isAbove, isBelow, signNegative, signPositive, someSide, everySide}
 use Rattle.arcstring_pair.specs.declared.pair.Pair.{Pair}
 use Rattle.arcstring_pair.specs.declared.pair.Pair.the-variants.{Clean, End, Grazing, Apart}
 use Rattle.arcstring_pair.specs.declared.pair.Outcome.{Outcome}
@@ -33,40 +33,6 @@ sideTo l t = xyzDot (xyzCross (l .to) (normal l)) t
 
 unfoldable pub sideValues : Leg → Leg → SphericalPoint → List Float
 sideValues a b t = sideFrom a t ∷ sideTo a t ∷ sideFrom b t ∷ sideTo b t ∷ []
-
--- ---- tests of the four side values
-
-abbrev pub zeroFloat : Float
-zeroFloat = fin false 0 (pos 0)
-
--- a side value grazes: it is zero
-unfoldable pub grazes : Float → Bool
-grazes x = eq x zeroFloat
-
-unfoldable pub isAbove : Float → Bool
-isAbove x = lt zeroFloat x
-
-unfoldable pub isBelow : Float → Bool
-isBelow x = lt x zeroFloat
-
--- Rust's `is_sign_negative`, of a zero too, and `is_sign_positive`. A NaN has no sign here.
-unfoldable pub signNegative : Float → Bool
-signNegative nan = false
-signNegative (inf s) = s
-signNegative (fin s m e) = s
-
-unfoldable pub signPositive : Float → Bool
-signPositive nan = false
-signPositive (inf s) = not s
-signPositive (fin s m e) = not s
-
-unfoldable pub someSide : (Float → Bool) → List Float → Bool
-someSide t [] = false
-someSide t (s ∷ l) = t s || someSide t l
-
-unfoldable pub everySide : (Float → Bool) → List Float → Bool
-everySide t [] = true
-everySide t (s ∷ l) = t s && everySide t l
 
 -- ---- the class
 
@@ -94,10 +60,6 @@ classAt t a b s =
 
 unfoldable pub pairOf : Leg → Leg → Pair
 pairOf a b = classAt (meeting a b) a b (sideValues a b (meeting a b))
-
--- the side values show that a pair is apart: none grazes, some is above zero and some below
-unfoldable pub showsApart : List Float → Bool
-showsApart s = not (someSide grazes s) && someSide isAbove s && someSide isBelow s
 
 -- ---- a pair in document 01's numbers and values
 

@@ -14,7 +14,8 @@ use Rattle.arcstring.specs.Points.{points}
 use Rattle.arcstring_check.specs.Check.{storedCheck}
 use Rattle.arcstring_pair.specs.declared.pair.Pair.{Pair}
 use Rattle.arcstring.specs.Leg.{Leg, legCheck, legs}
-use Rattle.arcstring_pair.specs.Pair.{meeting, sideValues, grazes, isAbove, isBelow, signNegative, signPositive, someSide, everySide, atEnd, pairOf}
+use Rattle.arcstring_sides.specs.Sides.{grazes, isAbove, isBelow, signNegative, signPositive, someSide, everySide}
+use Rattle.arcstring_pair.specs.Pair.{meeting, sideValues, atEnd, pairOf}
 use Rattle.arcstring_pair.specs.Pair.{Judged, judged, keptPoint, arcsCrossing}
 
 -- ---- the Rust's own expressions

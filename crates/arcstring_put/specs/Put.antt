@@ -2,7 +2,6 @@
 -- refusal's, and results in the places that were lent for them. Definitions only.
 use mathlib.Core.Bool.{Bool, not}
 use mathlib.Core.List.{List, [], _∷_}
-use mathlib.Core.Option.{Option, none, some}
 use Prim.Native.Nat.{ℕ}
 use lib.Dec.{eqb}
 use lib.ListN.{getD}
@@ -11,8 +10,6 @@ use Rattle.sphericalpoint.specs.declared.SphericalPoint.{SphericalPoint}
 use Rattle.arcstring_check.specs.Answer.{Answer, refused, answered, flagNumber}
 use Rattle.arcstring.specs.Points.{point}
 use Rattle.arcstring.specs.Leg.{Leg, leg}
-use Rattle.arcstring_pair.specs.Pair.{Judged}
-use Rattle.arcstring_tally.specs.declared.counts.Counts.{Counts}
 
 -- ---- what is lent
 
@@ -47,36 +44,3 @@ builtCount r = r .0
 
 abbrev pub builtFlag : ℕ × Bool → ℕ
 builtFlag r = flagNumber (r .1)
-
--- clean, end, grazing, apart
-abbrev pub fourCounts : Counts → List ℕ
-fourCounts c = c .clean ∷ c .end ∷ c .grazing ∷ c .apart ∷ []
-
--- how many points a listing keeps, and its counts
-abbrev pub listedKept : ℕ × Counts → ℕ
-listedKept r = r .0
-
-abbrev pub listedCounts : ℕ × Counts → List ℕ
-listedCounts r = fourCounts (r .1)
-
--- how many pieces, and 0 for uncut
-abbrev pub pieceNumber : Option ℕ → ℕ
-pieceNumber none = 0
-pieceNumber (some n) = n
-
--- ---- a pair
-
-abbrev pub classByte : Judged → ℕ
-classByte j = j .class
-
--- 1 where the listings keep the pair's point
-abbrev pub keptByte : Judged → ℕ
-keptByte j = flagNumber (j .kept)
-
--- the point that the Rust answers; where it answers none the place keeps what it held
-abbrev pub pointOver : List Float → Option SphericalPoint → List Float
-pointOver old none = old
-pointOver old (some p) = threeFloats p
-
-abbrev pub pointPlace : List Float → Judged → List Float
-pointPlace old j = pointOver old (j .point)

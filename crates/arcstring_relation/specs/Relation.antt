@@ -1,61 +1,16 @@
 -- `==`, `within`, `contains` and `crosses` of two strings, as arcstring.rs has them. Definitions only.
-use mathlib.Core.Bool.{Bool, true, false, not, _&&_}
-use mathlib.Core.List.{List, [], _∷_}
-use Prim.Native.Nat.{_-_}
-use lib.ListN.{length, getD}
+use mathlib.Core.Bool.{Bool, not, _&&_}
+use mathlib.Core.List.{List}
+use lib.ListN.{length}
 use lib.Dec.{ltb}
 use lib.Ieee.{Float}
-use Rattle.sphericalpoint.specs.declared.SphericalPoint.{SphericalPoint}
-use Rattle.sphericalpoint.specs.Point.{normalizedUnlessShort}
-use Rattle.arcstring_check.specs.Answer.{Answer, answered, unlessRefused, pick}
-use Rattle.arcstring.specs.Points.{ArcString, points, noPoint}
+use Rattle.arcstring_check.specs.Answer.{Answer, answered, unlessRefused}
 use Rattle.arcstring_check.specs.Check.{storedCheck}
+use Rattle.arcstring.specs.Points.{ArcString, points}
 use Rattle.arcstring.specs.Leg.{legs}
 use Rattle.arcstring_tally.specs.Pairs.{pairsBetween, keptMarks}
-use Rattle.arcstring_along.specs.OnString.{nearSome, alongString, stored}
-
--- ---- boundaries
-
--- the first and the last vertex, each normalised once more
-unfoldable pub firstEnd : List SphericalPoint → SphericalPoint
-firstEnd ps = normalizedUnlessShort (getD ps 0 noPoint)
-
-unfoldable pub lastEnd : List SphericalPoint → SphericalPoint
-lastEnd ps = normalizedUnlessShort (getD ps (length ps - 1) noPoint)
-
-unfoldable pub boundary : List SphericalPoint → List SphericalPoint
-boundary ps = firstEnd ps ∷ lastEnd ps ∷ []
-
-unfoldable pub allNear : List SphericalPoint → List SphericalPoint → Bool
-allNear [] es = true
-allNear (p ∷ ps) es = nearSome p es && allNear ps es
-
--- both closed, or both open with each end of the left near an end of the right
-abbrev pub boundariesMeet : Bool → Bool → Bool → Bool
-boundariesMeet true true endsNear = true
-boundariesMeet false false endsNear = endsNear
-boundariesMeet true false endsNear = false
-boundariesMeet false true endsNear = false
-
-unfoldable pub sameBoundary : ArcString → ArcString → Bool
-sameBoundary a b = boundariesMeet (a .closed) (b .closed) (allNear (boundary (a .vertices)) (boundary (b .vertices)))
-
--- ---- vertices along a string
-
-unfoldable pub allAlong : List SphericalPoint → ArcString → Bool
-allAlong [] s = true
-allAlong (p ∷ ps) s = alongString p s && allAlong ps s
-
--- every vertex of the longer along the shorter, and of the shorter along the longer
-unfoldable pub eachAlong : ArcString → ArcString → Bool
-eachAlong shorter longer = allAlong (longer .vertices) shorter && allAlong (shorter .vertices) longer
-
--- `==`: the left is the shorter only if it is strictly shorter
-unfoldable pub equalStrings : ArcString → ArcString → Bool
-equalStrings a b = sameBoundary a b && pick (ltb (length (a .vertices)) (length (b .vertices))) (eachAlong a b) (eachAlong b a)
-
-unfoldable pub withinString : ArcString → ArcString → Bool
-withinString a b = allAlong (a .vertices) b
+use Rattle.arcstring_along.specs.OnString.{stored}
+use Rattle.arcstring_against.specs.Against.{allAlong, equalStrings, withinString, twoStrings}
 
 -- neither is within the other, and some pair of legs keeps a point
 unfoldable pub crossesString : ArcString → ArcString → Bool
@@ -65,11 +20,6 @@ crossesString a b =
     && ltb 0 (length (keptMarks (pairsBetween (legs (a .vertices) (a .closed)) (legs (b .vertices) (b .closed))))))
 
 -- ---- the calls
-
--- the four lists' checks in turn: the first string's vertices and near list, then the second's
-unfoldable pub twoStrings : {A : Type 0} → List Float → List Float → List Float → List Float → Answer A → Answer A
-twoStrings a aNear b bNear x =
-    unlessRefused (storedCheck a) (unlessRefused (storedCheck aNear) (unlessRefused (storedCheck b) (unlessRefused (storedCheck bNear) x)))
 
 unfoldable pub equal : List Float → List Float → Bool → List Float → List Float → Bool → Answer Bool
 equal a aNear aClosed b bNear bClosed = twoStrings a aNear b bNear (answered (equalStrings (stored a aNear aClosed) (stored b bNear bClosed)))

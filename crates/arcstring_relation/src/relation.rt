@@ -2,11 +2,11 @@
 // lent only what it reads.
 ghost use mathlib.Core.Path.{_≡_};
 ghost use Rattle.arcstring_check.specs.Check.{storedCheck};
-ghost use Rattle.arcstring.specs.Point.{decidedAnswer};
+ghost use Rattle.arcstring_check.specs.Answer.{decidedAnswer};
 ghost use Rattle.arcstring_along.specs.OnString.{stored};
 ghost use Rattle.arcstring_relation.specs.Relation.{crossesString, equal};
 ghost use Rattle.arcstring_relation.specs.Relation as Relation;
-use crate::inner;
+use arcstring_against::inner;
 use arcstring_check::check::Checked;
 use arcstring_check::check::Decided;
 

@@ -6,7 +6,7 @@ use lib.ListN.{length, getD, take, drop}
 use lib.Dec.{ltb, leb, eqb}
 use lib.Ieee.{Float}
 use Rattle.sphericalpoint.specs.declared.SphericalPoint.{SphericalPoint}
-use Rattle.sphericalpoint.specs.Point.{xyzsCoplanar}
+use Rattle.sphericalpoint_coplanar.specs.Coplanar.{xyzsCoplanar}
 use Rattle.arcstring_check.specs.Answer.{Answer, refused, answered, unlessRefused, andThen, pick}
 use Rattle.arcstring.specs.Points.{itself, points, noPoint}
 use Rattle.arcstring_check.specs.Check.{storedCheck, intoRoom}

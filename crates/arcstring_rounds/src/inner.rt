@@ -40,7 +40,7 @@ fn unnecessary(v: &[f64], at: &[usize], k: usize) -> bool
     let a = vertex::vertex_at(v, before);
     let b = vertex::vertex_at(v, this);
     let c = vertex::vertex_at(v, third);
-    sphericalpoint::coplanar_of(a.x, a.y, a.z, b.x, b.y, b.z, c.x, c.y, c.z)
+    sphericalpoint_coplanar::inner::coplanar_of(a.x, a.y, a.z, b.x, b.y, b.z, c.x, c.y, c.z)
 }
 
 // Position 0, and position k + skip for each k from 1 on whose vertex is not judged unnecessary.

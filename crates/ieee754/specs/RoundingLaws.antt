@@ -1,6 +1,6 @@
 -- What is claimed of rounded operations: how far each lies from the exact one, and in which order. For both formats, and all over whole numbers of units.
 -- Definitions only. The proofs are in `proofs/Units.antt`, `Spacing.antt`, `Rounded.antt` and `Operations.antt`: `ProductClose` is proved by
--- `product-close`, and so on. The law of the root is sphericalpoint's `RootClose`, since the root is defined there.
+-- `product-close`, and so on. The law of the root is square_root's `RootClose`, since the root is defined there.
 use mathlib.Core.Path.{_≡_}
 use mathlib.Core.Bool.{Bool}
 use Prim.Native.Nat.{ℕ, _+_, _*_, _^_, _≤_, _<_}

@@ -8,14 +8,16 @@ use Rattle.ieee754.specs.Size.{abs}
 use Rattle.square_root.specs.Sqrt.{sqrtOf}
 use Rattle.sphericalpoint.specs.Vector.{equalityTolerance, coplanarTolerance, xyzSub, xyzMul, xyzDiv, xyzNeg, xyzAbs, xyzSum, xyzDot, xyzCross, xyzLength}
 use Rattle.sphericalpoint.specs.Vector.{xyzEq, normalized}
-use Rattle.sphericalpoint.specs.Point.{betweenInPlane, xyzsCoplanar, normalizedUnlessShort}
+use Rattle.sphericalpoint.specs.Point.{normalizedUnlessShort}
+use Rattle.sphericalpoint_coplanar.specs.Coplanar.{betweenInPlane, xyzsCoplanar}
 use Rattle.arcstring_check.specs.Check.{inRange, allInRange, listCheck, buoysCheck, stringCheck, buildingCheck, pointCheck, roomCheck, roomsCheck, intoRooms}
 use Rattle.arcstring_check.specs.Check.{lent}
-use Rattle.arcstring.specs.Point.{coplanarPoints}
+use Rattle.arcstring_point.specs.Point.{coplanarPoints}
 use Rattle.arcstring_build.specs.Build.{endsMeet, builtVertices, builtString, builtNumbered, buildInto, build}
 use Rattle.arcstring_check.specs.Answer.{refused, answered}
 use Rattle.arcstring.specs.Points.{point}
-use Rattle.arcstring_pair.specs.Pair.{normal, meeting, sideFrom, sideTo, sideValues, grazes, isAbove, isBelow, signNegative, signPositive, someSide, everySide}
+use Rattle.arcstring_sides.specs.Sides.{grazes, isAbove, isBelow, signNegative, signPositive, someSide, everySide}
+use Rattle.arcstring_pair.specs.Pair.{normal, meeting, sideFrom, sideTo, sideValues}
 use Rattle.arcstring_pair.specs.Pair.{atEnd, keptOrDropped, grazingOutcome, endOrClean, classAt, pairOf, arcsCrossing}
 use Rattle.arcstring.specs.Leg.{legCheck}
 use Rattle.arcstring_rounds.specs.Rounds.{thirdPosition, unnecessary, unnecessaryFrom, unnecessaryPositions, removeAt, removeAll, isSimple, rounds, simplified}

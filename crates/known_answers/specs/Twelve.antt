@@ -12,7 +12,7 @@ use Rattle.square_root.specs.Sqrt.{sqrtOf}
 use Rattle.arcstring_check.specs.Answer.{Answer, refused, answered}
 use Rattle.arcstring.specs.declared.inner.vertex.Vertex.{Vertex}
 use Rattle.arcstring.specs.Points.{StringOf, ArcString, point, flat}
-use Rattle.arcstring.specs.Point.{coplanarPoints}
+use Rattle.arcstring_point.specs.Point.{coplanarPoints}
 use Rattle.arcstring_build.specs.Build.{builtString, build}
 use Rattle.arcstring.specs.Leg.{Leg, leg}
 use Rattle.arcstring_pair.specs.Pair.{Judged, arcsCrossing}

@@ -15,7 +15,7 @@ use mir.ValLaws.{toZ-ofZ}
 use Rattle.io.specs.Counts.{clamped}
 use Rattle.textform.specs.Text.{State, fedWith}
 use Rattle.textform.specs.Kept.{keep}
-use Rattle.textform.specs.Pieces.{mostRead, OneRead}
+use Rattle.textform_count.specs.Pieces.{mostRead, OneRead}
 
 -- what is fed is what was read: n bytes of a buffer that is as long as before
 pub fed-as-read : (got : ℤ) (s held : State) (n old : ℕ) (bytes : List ℕ) → held ≡ fedWith keep s (take n bytes) → n ≡ clamped got (length bytes)

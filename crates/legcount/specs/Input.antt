@@ -6,7 +6,7 @@ use lib.ListN.{take}
 use lib.IntN.{pos}
 use lib.Ieee.{Float}
 use Rattle.textform.specs.Print.{printRoom}
-use Rattle.textform.specs.Pieces.{ReadInPieces, PrintedOfPieces}
+use Rattle.textform_count.specs.Pieces.{ReadInPieces, PrintedOfPieces}
 use Rattle.legcount.specs.declared.Input.{Input}
 use Rattle.legcount.specs.declared.Input.the-variants as I
 use Rattle.legcount.specs.declared.Said.{Said}

@@ -1,5 +1,5 @@
 // The counting program: reads two strings from standard input, in the text form, to its end, and prints the counts of their pairs
-// of legs, or a refusal. What is printed for what is read is textform's to say; here it is only read and written.
+// of legs, or a refusal. What is printed for what is read is textform_count's to say; here it is only read and written.
 //
 // No contract can say what is read from a descriptor. Those below say: there are pieces of 1 to 4,096 bytes, and what is held, and
 // then printed, is that of the pieces one after another; and the input is whole only where a turn's answer was 0. What is left to be
@@ -16,10 +16,10 @@ ghost use Rattle.textform.specs.Kept.{floatsKept, heldState, Sound};
 ghost use Rattle.textform.specs.Kept as Kept;
 ghost use Rattle.textform.specs.Print.{printRoom};
 ghost use Rattle.legcount.specs.Input.{HeldWhole, PrintsWhole};
-use textform::inner::count;
 use textform::inner::print;
 use textform::inner::read;
 use textform::inner::read::Reader;
+use textform_count::inner::count;
 
 // The reader after one read of the input, and what that read answered: how many bytes, 0 at the end, or a negative number.
 struct Turn {

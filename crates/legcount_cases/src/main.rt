@@ -1,8 +1,8 @@
 // What the counting program prints for inputs other than its own stored one, each line of it after the other: the gate compares.
 ghost use Prim.Native.Nat.{_≤_};
 ghost use lib.ListN.{length};
-use textform::inner::count;
 use textform::inner::print;
+use textform_count::inner::count;
 
 // One input's output.
 fn show(input: &[u8]) {

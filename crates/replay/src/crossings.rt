@@ -77,7 +77,7 @@ fn crossings(q: Request, a: &[f64], b: &[f64], points: &mut [f64], marks: &mut [
 fn crossings_with_self(a: &[f64], points: &mut [f64], marks: &mut [u8]) {
     let mut kept = NUMBER;
     let mut counts = [COUNT; 4];
-    let n = arcstring_c::listing::arcstring_crossings_with_self(
+    let n = arcstring_c::with_self::arcstring_crossings_with_self(
         a,
         points,
         marks,

@@ -42,7 +42,7 @@ fn xyzs_coplanar(a: &[f64]) {
 
 fn crosses_self(q: Request, a: &[f64]) {
     let mut yes = BYTE;
-    let n = arcstring_c::listing::arcstring_crosses_self(a, q.first_flag, &mut yes);
+    let n = arcstring_c::with_self::arcstring_crosses_self(a, q.first_flag, &mut yes);
     print_verdict(n, yes);
 }
 

@@ -25,8 +25,8 @@ use Rattle.arcstring_pair.specs.Pair.{pairOf}
 use Rattle.arcstring.proofs.Legs.{length-legs, length-open-legs}
 use Rattle.arcstring_tally.specs.declared.counts.Counts.{Counts}
 use Rattle.arcstring_tally.specs.Pairs.{pairsBetween, pairsWithin, oneClean, total, countsOf, Mark, keptMarks, cleanPoints}
-use Rattle.arcstring_listing.specs.Listing.{Listing, listingOf, normalizedListing, inRoom, visited, counted, crossings, legPairs, legCrossings, selfPairs}
-use Rattle.arcstring_listing.specs.Listing.{selfCrossings}
+use Rattle.arcstring_listing.specs.Listing.{Listing, listingOf, inRoom, visited, counted, crossings, legPairs, legCrossings}
+use Rattle.arcstring_self.specs.SelfListing.{normalizedListing, selfPairs, selfCrossings}
 use Rattle.arcstring_visit.proofs.Rows.{length-between, length-self}
 use Rattle.arcstring_tally.proofs.Tallies.{all-classes}
 use Rattle.same_crossings.specs.CountLaws.{sumOfCounts, legsIn, CountsAddUp, ListingAgrees, ListingAddsUp, LegListingAddsUp, SelfListingAddsUp}

@@ -17,7 +17,8 @@ use Rattle.arcstring_walk.proofs.WalksWithout.{back-places, restart-places}
 use Rattle.arcstring_pair.specs.declared.pair.Pair.{Pair}
 use Rattle.arcstring.specs.Leg.{Leg, legs}
 use Rattle.arcstring_tally.specs.Pairs.{pairsBetween, pairsWithin, countsOf, keptMarks, cleanPoints}
-use Rattle.arcstring_listing.specs.Listing.{Listing, listingOf, normalizedListing, visited, counted, selfPairs}
+use Rattle.arcstring_listing.specs.Listing.{Listing, listingOf, visited, counted}
+use Rattle.arcstring_self.specs.SelfListing.{normalizedListing, selfPairs}
 use Rattle.same_crossings.specs.Changes.{Held, TwoStrings, Accepted, Which, theFirst, theSecond, Change, trade, backwards, restartAt, withVertices}
 use Rattle.same_crossings.specs.Changes.{replaced, walkedBack, restartedAt, changeOne, change, changes, SameCleanPoints, countsOfTwo, SameCrossings}
 use Rattle.same_crossings.specs.Changes.{Demand3, walksBack, SameSelfCrossings, Demand3Self}

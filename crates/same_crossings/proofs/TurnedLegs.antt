@@ -14,7 +14,8 @@ use Rattle.arcstring_pair.specs.declared.pair.Pair.{Pair}
 use Rattle.arcstring_pair.specs.declared.pair.Pair.the-variants.{Clean, End, Grazing, Apart}
 use Rattle.arcstring_pair.specs.declared.pair.Outcome.{Outcome}
 use Rattle.arcstring.specs.Leg.{Leg, leg}
-use Rattle.arcstring_pair.specs.Pair.{normal, meeting, sideFrom, sideTo, sideValues, zeroFloat, grazes, isAbove, isBelow, someSide, everySide, atEnd}
+use Rattle.arcstring_sides.specs.Sides.{zeroFloat, grazes, isAbove, isBelow, someSide, everySide}
+use Rattle.arcstring_pair.specs.Pair.{normal, meeting, sideFrom, sideTo, sideValues, atEnd}
 use Rattle.arcstring_pair.specs.Pair.{grazingOutcome, endOrClean, classAt, pairOf}
 use Rattle.same_crossings.specs.Changes.{PointValue, pointValue}
 use Rattle.same_crossings.proofs.VectorValues.{Like, like, like-trans, Same, same-point, same-refl, same-trans, same-neg, same-dot, same-cross, same-eq}

@@ -16,7 +16,8 @@ use Rattle.arcstring_walk.specs.Walk.{walkBack, restart}
 use Rattle.arcstring_pair.specs.declared.pair.Pair.{Pair}
 use Rattle.arcstring_tally.specs.declared.counts.Counts.{Counts}
 use Rattle.arcstring_tally.specs.Pairs.{countsOf, cleanPoints}
-use Rattle.arcstring_listing.specs.Listing.{Listing, visited, counted, crossings, selfCrossings}
+use Rattle.arcstring_listing.specs.Listing.{Listing, visited, counted, crossings}
+use Rattle.arcstring_self.specs.SelfListing.{selfCrossings}
 use Rattle.same_crossings.specs.CountLaws.{CountsAddUp, ListingAgrees, ListingAddsUp, ListingOfPairs, SelfListingAddsUp, SelfListingOfPairs}
 
 -- ---- strings as they are handed in

@@ -16,7 +16,8 @@ use Rattle.arcstring_pair.specs.declared.pair.Pair.the-variants.{Clean, End, Gr
 use Rattle.arcstring.specs.Leg.{Leg, legCount}
 use Rattle.arcstring_tally.specs.declared.counts.Counts.{Counts}
 use Rattle.arcstring_tally.specs.Pairs.{countsOf, cleanPoints}
-use Rattle.arcstring_listing.specs.Listing.{Listing, visited, counted, crossings, legPairs, legCrossings, selfPairs, selfCrossings}
+use Rattle.arcstring_listing.specs.Listing.{Listing, visited, counted, crossings, legPairs, legCrossings}
+use Rattle.arcstring_self.specs.SelfListing.{selfPairs, selfCrossings}
 
 -- ---- how many pairs
 

@@ -1,7 +1,5 @@
 -- The laws of points. `Tolerances`, that the constants of the code are the floats nearest to their decimals, is for others to cite; the rest serves the
--- proofs of `src/lib.rt`.
+-- proofs of `src/`.
 pub mod Tolerances
-mod Sizes
 mod Cases
 mod Magnitudes
-mod FarOff

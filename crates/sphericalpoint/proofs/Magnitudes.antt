@@ -1,40 +1,12 @@
--- The larger of x and -x has the value of x's size, and a sum of three such floats compares as the sum of the sizes. Assumes nothing.
-use mathlib.Core.Path.{_≡_, refl, sym}
-use mathlib.Core.Bool.{true, false}
-use Prim.Native.Nat.{ℕ, zero, suc, _+_, _*_, _<_}
-use native.Mathlib.Omega.{arith}
-use native.Mathlib.Nat.{mul-pos}
-use lib.IntN.{ℤ}
-use lib.Ieee.{Float, nan, inf, fin, binary64, neg, add, lt, up, down}
-use lib.Ieee.Fits.{up-pos, down-pos}
-use borrow.Author.Tests.{ltb-false}
-use Rattle.ieee754.proofs.Tests.{never}
+-- A sum of three floats with the values of sizes compares as the sum of the sizes. Assumes nothing.
+use mathlib.Core.Path.{_≡_, refl}
+use lib.Ieee.{Float, binary64, add, lt}
 use Rattle.ieee754.specs.Size.{abs}
 use Rattle.ieee754.specs.Value.{value}
 use Rattle.ieee754.proofs.ByValue.{add-value}
 use Rattle.ieee754.proofs.Comparisons.{lt-value}
 use Rattle.sphericalpoint.specs.declared.SphericalPoint.{SphericalPoint}
 use Rattle.sphericalpoint.specs.Vector.{xyzAbs, xyzSum}
-
-some : (m : ℕ) (e : ℤ) → 0 < suc m * up e * down e
-some m e = mul-pos (mul-pos (omega arith) (up-pos e)) (down-pos e)
-
-pub upper : (x : Float) → lt (neg x) x ≡ true → value x ≡ value (abs x)
-unfolding lt neg abs
-upper nan h = refl
-upper (inf true) h = never h
-upper (inf false) h = refl
-upper (fin false m e) h = refl
-upper (fin true m e) h = never h
-
-pub lower : (x : Float) → lt (neg x) x ≡ false → value (neg x) ≡ value (abs x)
-unfolding lt neg abs
-lower nan h = refl
-lower (inf true) h = refl
-lower (inf false) h = never (sym h)
-lower (fin true m e) h = refl
-lower (fin false zero e) h = refl
-lower (fin false (suc m) e) h = absurd (omega (arith, ltb-false 0 (suc m * up e * down e + suc m * up e * down e) h, some m e))
 
 -- adding and comparing go by values
 pub by-magnitudes : (d : SphericalPoint) (u v w t : Float) → value u ≡ value (abs (d .x)) → value v ≡ value (abs (d .y)) → value w ≡ value (abs (d .z))

@@ -1,10 +1,9 @@
--- Points: normalising, building one by itself, and the test of three points on one leg, as document 01 and sphericalpoint.rs have them. Definitions only.
-use mathlib.Core.Bool.{Bool, true, false, _&&_, _||_, cond}
+-- Points: normalising, and building one by itself, as document 01 and sphericalpoint.rs have them. Definitions only.
+use mathlib.Core.Bool.{Bool, true, false}
 use lib.IntN.{pos}
-use lib.Ieee.{Float, fin, binary64, add, sub, div, neg, lt, le}
-use Rattle.ieee754.specs.Size.{abs}
+use lib.Ieee.{Float, fin, binary64, sub, lt}
 use Rattle.sphericalpoint.specs.declared.SphericalPoint.{SphericalPoint}
-use Rattle.sphericalpoint.specs.Vector.{equalityTolerance, coplanarTolerance, unitTolerance, xyzDot, xyzCross, xyzLength, xyzEq, normalized}
+use Rattle.sphericalpoint.specs.Vector.{equalityTolerance, unitTolerance, xyzLength, normalized}
 
 abbrev pub one : Float
 one = fin false 1 (pos 0)
@@ -21,21 +20,3 @@ normalizedUnlessShort a = pickPoint (lt (xyzLength a) equalityTolerance) a (norm
 -- `SphericalPoint::from`: a vector stays as it is if its length minus 1 is below 2e-11. So every short vector does too, a zero vector among them.
 unfoldable pub pointFrom : SphericalPoint → SphericalPoint
 pointFrom a = pickPoint (lt (sub binary64 (xyzLength a) one) unitTolerance) a (normalized a)
-
--- the last part of `xyzs_coplanar`, with m the cross product of a and b and l its length: c is near their plane, no farther from either than they
--- are from each other, and they are not antipodal
-unfoldable pub betweenInPlane : SphericalPoint → SphericalPoint → SphericalPoint → SphericalPoint → Float → Bool
-betweenInPlane a b c m l =
-    lt (div binary64 (abs (xyzDot c m)) l) coplanarTolerance
-    && (le (xyzDot a b) (xyzDot a c) && le (xyzDot a b) (xyzDot b c))
-    && lt (add binary64 (neg one) coplanarTolerance) (xyzDot a b)
-
--- the part of that which needs neither m nor l, for the inner function `between_ends`
-unfoldable pub betweenEnds : SphericalPoint → SphericalPoint → SphericalPoint → Bool
-betweenEnds a b c = (le (xyzDot a b) (xyzDot a c) && le (xyzDot a b) (xyzDot b c)) && lt (add binary64 (neg one) coplanarTolerance) (xyzDot a b)
-
--- `xyzs_coplanar`. c is sought between a and b, although its callers pass the point that they ask about as b.
-unfoldable pub xyzsCoplanar : SphericalPoint → SphericalPoint → SphericalPoint → Bool
-xyzsCoplanar a b c =
-    let m = xyzCross a b in
-    cond (xyzEq a b || xyzEq b c) true (cond (lt (xyzLength m) coplanarTolerance) false (betweenInPlane a b c m (xyzLength m)))

@@ -3,7 +3,8 @@
 ghost use mathlib.Core.Path.{_≡_};
 ghost use Rattle.square_root.specs.Sqrt.{sqrtOf};
 ghost use Rattle.sphericalpoint.specs.Vector.{xyzEq};
-ghost use Rattle.sphericalpoint.specs.Point.{pointFrom, xyzsCoplanar};
+ghost use Rattle.sphericalpoint.specs.Point.{pointFrom};
+ghost use Rattle.sphericalpoint_coplanar.specs.Coplanar.{xyzsCoplanar};
 use sphericalpoint::SphericalPoint;
 
 #[no_mangle]
@@ -28,7 +29,7 @@ pub extern "C" fn sphericalpoint_xyzs_coplanar(
 ) -> bool
     ensures { λ r. ⌜ r ≡ xyzsCoplanar a b c ⌝ }
 {
-    sphericalpoint::xyzs_coplanar(a, b, c)
+    sphericalpoint_coplanar::xyzs_coplanar(a, b, c)
 }
 
 #[no_mangle]

@@ -1,31 +1,24 @@
--- The whole reading: it may be done in pieces; and what the code keeps of it answers as the plain reading does: the theorems of `specs/TextLaws.antt`.
+-- The whole reading: it may be done in pieces, the theorem of `specs/TextLaws.antt`; and what the code keeps of it is what is kept of the plain reading.
 -- Assumes nothing.
-use mathlib.Core.Path.{_≡_, refl, sym, ap, ap₂, _∙_}
-use mathlib.Core.Bool.{Bool, true, false, _&&_, false≢true}
+use mathlib.Core.Path.{_≡_, refl, sym, ap, _∙_}
+use mathlib.Core.Bool.{Bool, true, false}
 use mathlib.Core.List.{List, [], _∷_, _++_, map, map-append}
 use mathlib.Core.Option.{Option, none, some}
-use Prim.Native.Nat.{ℕ, zero, suc, _+_, _*_, _%_, _≤_}
+use Prim.Native.Nat.{ℕ, _+_, _*_, _≤_}
 use native.Mathlib.Omega.{arith}
 use lib.Dec.{ltb, eqb}
 use lib.ListN.{length, take, length-append, length-map}
 use lib.Seq.{take-all, take-append-le, length-take-le}
-use lib.Ieee.{Float, nan, inf, fin, le, binary64, ofBits}
+use lib.Ieee.{Float, binary64, ofBits}
 use borrow.Author.Tests.{ltb-true, ltb-false}
-use Rattle.arcstring_check.specs.Answer.{Answer, answered, unlessRefused, pick}
-use Rattle.arcstring.specs.Points.{points}
-use Rattle.arcstring_build.specs.Build.{builtString}
-use Rattle.arcstring_check.specs.Check.{inRange, allInRange, buildCheck}
-use Rattle.arcstring_check.proofs.Checks.{too-many, build-enough, build-whole, build-by-parts}
-use Rattle.arcstring_tally.specs.declared.counts.Counts.{Counts}
+use Rattle.arcstring_check.specs.Answer.{pick}
 use Rattle.textform.specs.declared.inner.read.Part.{Part}
 use Rattle.textform.specs.declared.inner.read.Part.the-variants as P
 use Rattle.textform.specs.Text.{letterA, letterB, State, start, partAt, placeAfter, hexDigit, malformed, onward, ifDigit, append, withFloat, stepAt}
-use Rattle.textform.specs.Text.{stepWith, fedWith, reading, wellFormed}
+use Rattle.textform.specs.Text.{stepWith, fedWith, reading}
 use Rattle.textform.specs.Kept.{floatsKept, inPlace, keep, keptReading}
-use Rattle.textform.specs.Count.{countsBetween, countBuilt, countState}
-use Rattle.textform.specs.TextLaws.{FedInPieces, KeptCounts}
+use Rattle.textform.specs.TextLaws.{FedInPieces}
 use Rattle.textform.proofs.inner.read.Keeping.{keep-full, keep-more}
-use Rattle.textform.proofs.inner.read.Triples.{whole-triples}
 
 -- ---- in pieces
 
@@ -125,84 +118,3 @@ kept-fed s (byte ∷ bytes) = ap (λ (t : State). fedWith keep t bytes) (kept-st
 pub kept-reading : (bytes : List ℕ) → keptReading bytes ≡ keptState (reading bytes)
 unfolding keptReading reading keptOf
 kept-reading bytes = kept-fed start bytes
-
--- ---- it answers as the plain reading does
-
-range-in-place : (x : Float) → inRange (inPlace x) ≡ inRange x
-unfolding inRange le
-range-in-place nan = refl
-range-in-place (inf s) = refl
-range-in-place (fin s m e) = refl
-
-ranges-in-place : (v : List Float) → allInRange (map inPlace v) ≡ allInRange v
-unfolding allInRange
-ranges-in-place [] = refl
-ranges-in-place (x ∷ v) = ap₂ _&&_ (range-in-place x) (ranges-in-place v)
-
--- no coordinate in range is a NaN
-in-range-same : (x : Float) → inRange x ≡ true → inPlace x ≡ x
-unfolding inRange le
-in-range-same nan h = absurd (false≢true h)
-in-range-same (inf s) h = refl
-in-range-same (fin s m e) h = refl
-
-both-true : (t u : Bool) → t && u ≡ true → (t ≡ true) × (u ≡ true)
-both-true true u h = (refl, h)
-both-true false u h = absurd (false≢true h)
-
-all-in-range-same : (v : List Float) → allInRange v ≡ true → map inPlace v ≡ v
-unfolding allInRange
-all-in-range-same [] h = refl
-all-in-range-same (x ∷ v) h =
-    let both = both-true (inRange x) (allInRange v) h in
-    ap₂ _∷_ (in-range-same x (both .0)) (all-in-range-same v (both .1))
-
-module _ (v : List Float) where
-  -- of whole triples, what is kept is refused as the list is
-  pub kept-check : length v % 3 ≡ 0 → buildCheck (keptOf v) ≡ buildCheck v
-  kept-check h = by-length (ltb (length v) floatsKept) refl
-    where
-      by-length : (t : Bool) → ltb (length v) floatsKept ≡ t → buildCheck (keptOf v) ≡ buildCheck v
-      by-length true e =
-          let l = ltb-true (length v) floatsKept e in
-          ap buildCheck (kept-short v (omega arith)) ∙ build-by-parts (map inPlace v) v (length-map v inPlace) (ranges-in-place v)
-      by-length false e =
-          let l = ltb-false (length v) floatsKept e in
-          let n = kept-long v l in
-          sym (too-many 0 (keptOf v) (omega arith) refl (omega arith) ∙ build-enough (keptOf v) (omega arith))
-          ∙ (too-many 0 v h refl (omega arith) ∙ build-enough v (omega arith))
-
-  -- and an accepted list is kept as it is
-  pub kept-accepted : buildCheck v ≡ 0 → keptOf v ≡ v
-  kept-accepted h =
-      let w = build-whole v h in
-      kept-short v (omega arith) ∙ all-in-range-same v (w .in-range)
-
--- an answer behind two checks
-behind-checks : {A : Type 0} (m n : ℕ) (x y : Answer A) → (m ≡ 0 → n ≡ 0 → x ≡ y) → unlessRefused m (unlessRefused n x) ≡ unlessRefused m (unlessRefused n y)
-behind-checks zero zero x y h = h refl refl
-behind-checks zero (suc n) x y h = refl
-behind-checks (suc m) n x y h = refl
-
--- two lists of whole triples are counted as they are
-kept-built : (a b : List Float) → length a % 3 ≡ 0 → length b % 3 ≡ 0 → countBuilt (keptOf a) (keptOf b) ≡ countBuilt a b
-unfolding countBuilt
-kept-built a b h k =
-    ap₂ (λ (m n : ℕ). unlessRefused m (unlessRefused n (counts (keptOf a) (keptOf b)))) (kept-check a h) (kept-check b k)
-    ∙ behind-checks (buildCheck a) (buildCheck b) _ _ (λ p q. ap₂ counts (kept-accepted a p) (kept-accepted b q))
-  where
-    counts : List Float → List Float → Answer Counts
-    counts v w = answered (countsBetween (builtString (points v)) (builtString (points w)))
-
--- a choice by a test, which makes the first two the same where it holds
-pick-same : {A : Type 0} (t : Bool) (x y z : A) → (t ≡ true → x ≡ y) → pick t x z ≡ pick t y z
-pick-same true x y z h = h refl
-pick-same false x y z h = refl
-
--- so the counts are those of the plain reading
-pub kept-counts : KeptCounts
-unfolding countState wellFormed
-kept-counts bytes =
-    let s = reading bytes in
-    ap countState (kept-reading bytes)
-    ∙ pick-same (wellFormed s) _ _ _ (λ e. let w = whole-triples bytes e in kept-built (s .a) (s .b) (w .0) (w .1))

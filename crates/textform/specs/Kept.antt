@@ -9,10 +9,7 @@ use lib.ListN.{length, take}
 use lib.Dec.{ltb}
 use lib.IntN.{pos}
 use lib.Ieee.{Float, nan, inf, fin}
-use Rattle.arcstring_check.specs.Answer.{Answer, answered, unlessRefused, mapAnswer, pick}
-use Rattle.arcstring.specs.Points.{ArcString, points, flat}
-use Rattle.arcstring_check.specs.Check.{buildCheck}
-use Rattle.arcstring_build.specs.Build.{builtString}
+use Rattle.arcstring_check.specs.Answer.{pick}
 use Rattle.textform.specs.declared.inner.read.Digit.{Digit}
 use Rattle.textform.specs.declared.inner.read.Digit.the-variants as D
 use Rattle.textform.specs.declared.inner.read.Reader.{Reader}
@@ -57,10 +54,3 @@ Becomes r change q = Sound q × ((a b : List Float) → heldState q a b ≡ chan
 
 unfoldable pub keptReading : List ℕ → State
 keptReading bytes = fedWith keep start bytes
-
--- what building answers for points without buoys, where there is room for every string
-unfoldable pub plainBuild : List Float → Answer ArcString
-plainBuild v = unlessRefused (buildCheck v) (answered (builtString (points v)))
-
-abbrev pub plainFloats : Answer ArcString → Answer (List Float)
-plainFloats a = mapAnswer (λ (s : ArcString). flat (s .vertices)) a

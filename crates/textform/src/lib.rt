@@ -1,8 +1,7 @@
 // The text form that the programs read and write: two strings as a line of names and a row for each point, read byte by byte
-// so that input of any length comes in pieces; and counts or a refusal, printed.
+// so that input of any length comes in pieces; and numbers or a refusal, printed.
 //
 //     inner          for the programs of this repository
 //     inner::read    the machine over the bytes
-//     inner::print   decimal counts, the refusal line
-//     inner::count   the counting program's answer: read, built, counted, printed
+//     inner::print   texts, decimal numbers, the refusal line
 pub mod inner;

@@ -5,23 +5,16 @@ ghost use lib.ListN.{length};
 ghost use Rattle.arcstring.specs.Points.{points};
 ghost use Rattle.arcstring_check.specs.Check.{storedCheck};
 ghost use Rattle.arcstring.specs.Leg.{legOf, legAt, legsFrom};
-ghost use Rattle.arcstring_along.specs.OnString.{foundAt, isNear, firstNear, nearSome, alongLeg, alongSomeLeg, alongString, stored};
+ghost use Rattle.arcstring_along.specs.OnString.{foundAt, firstNear, nearSome, alongLeg, alongSomeLeg, alongString, stored};
 use arcstring::inner::leg;
 use arcstring::inner::vertex;
+use arcstring_near::inner::is_near;
 use sphericalpoint::SphericalPoint;
 
 // The position of the first near entry that passes.
 pub enum Found {
     At(usize),
     Nothing,
-}
-
-// Whether the sum of squared differences is strictly below the equality tolerance.
-pub fn is_near(p: SphericalPoint, e: SphericalPoint) -> bool
-    ensures { λ r. ⌜ r ≡ isNear p e ⌝ }
-{
-    let d = sphericalpoint::xyz_sub_xyz(p, e);
-    sphericalpoint::xyz_sum(sphericalpoint::xyz_mul_xyz(d, d)) < SphericalPoint::EQUALITY_TOLERANCE
 }
 
 fn first_near(p: SphericalPoint, near: &[f64], n: usize) -> Found
@@ -58,14 +51,14 @@ pub fn along_leg_at(p: SphericalPoint, v: &[f64], n: usize, k: usize) -> bool
     let next = if k + 1 < n { k + 1 } else { 0 };
     let a = vertex::vertex_at(v, k);
     let b = vertex::vertex_at(v, next);
-    sphericalpoint::coplanar_of(a.x, a.y, a.z, p.x, p.y, p.z, b.x, b.y, b.z)
+    sphericalpoint_coplanar::inner::coplanar_of(a.x, a.y, a.z, p.x, p.y, p.z, b.x, b.y, b.z)
 }
 
 // The same of a leg by itself.
 pub fn along_leg(p: SphericalPoint, arc: [[f64; 3]; 2]) -> bool
     ensures { λ r. ⌜ r ≡ alongLeg p (legOf arc) ⌝ }
 {
-    sphericalpoint::xyzs_coplanar(leg::start_of(arc), p, leg::end_of(arc))
+    sphericalpoint_coplanar::xyzs_coplanar(leg::start_of(arc), p, leg::end_of(arc))
 }
 
 // Whether a point is along one of the first `l` legs.

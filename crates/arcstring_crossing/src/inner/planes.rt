@@ -142,7 +142,11 @@ fn flag_at(plane: Plane, planes: &[f64], width: usize, k: usize) -> usize
     let other = plane_at(planes, width, k);
     let t = sphericalpoint::xyz_cross(plane.normal, other.normal);
     let s = side_values(plane, other, t);
-    if class::shows_apart(s) { 0 } else { 1 }
+    if arcstring_sides::inner::shows_apart(s) {
+        0
+    } else {
+        1
+    }
 }
 
 // The flags of a leg's pairs with the legs from position `from` up to `to`, and how many are not 0.

@@ -1,78 +1,16 @@
-// The class of a pair of legs by its four side values, and the pass's test of these that a pair is apart.
+// The class of a pair of legs by its four side values.
 ghost use mathlib.Core.Path.{_≡_};
-ghost use mathlib.Core.Bool.{true};
-ghost use lib.Ieee.{lt};
-ghost use Rattle.arcstring_check.specs.Answer.{pick};
 ghost use Rattle.arcstring.specs.Leg.{legOf};
-ghost use Rattle.arcstring_pair.specs.Pair.{showsApart, grazes, isAbove, isBelow, signNegative, signPositive, someSide, everySide, atEnd, keptOrDropped};
-ghost use Rattle.arcstring_pair.specs.Pair.{grazingOutcome, endOrClean, classAt};
+ghost use Rattle.arcstring_pair.specs.Pair.{atEnd, keptOrDropped, grazingOutcome, endOrClean, classAt};
 use crate::pair::Outcome;
 use crate::pair::Pair;
 use arcstring::inner::leg;
+use arcstring_sides::inner::all_above;
+use arcstring_sides::inner::all_below;
+use arcstring_sides::inner::all_sign_negative;
+use arcstring_sides::inner::all_sign_positive;
+use arcstring_sides::inner::some_grazing;
 use sphericalpoint::SphericalPoint;
-
-// Whether a side value grazes: it is zero.
-fn is_grazing(x: f64) -> bool
-    ensures { λ r. ⌜ r ≡ grazes x ⌝ }
-{
-    x == 0.0
-}
-
-// Whether the sign bit is set, of a zero too: one over a zero is the infinity of its sign.
-fn is_sign_negative(x: f64) -> bool
-    ensures { λ r. ⌜ r ≡ signNegative x ⌝ }
-{
-    if x == 0.0 {
-        return 1.0 / x < 0.0;
-    }
-    x < 0.0
-}
-
-// Whether the sign bit is clear, of a zero too.
-fn is_sign_positive(x: f64) -> bool
-    ensures { λ r. ⌜ r ≡ signPositive x ⌝ }
-{
-    if x == 0.0 {
-        return 1.0 / x > 0.0;
-    }
-    x > 0.0
-}
-
-fn some_grazing(s: [f64; 4]) -> bool
-    ensures { λ r. ⌜ r ≡ someSide grazes s ⌝ }
-{
-    is_grazing(s[0]) | is_grazing(s[1]) | is_grazing(s[2]) | is_grazing(s[3])
-}
-
-fn all_above(s: [f64; 4]) -> bool
-    ensures { λ r. ⌜ r ≡ everySide isAbove s ⌝ }
-{
-    (s[0] > 0.0) & (s[1] > 0.0) & (s[2] > 0.0) & (s[3] > 0.0)
-}
-
-fn all_below(s: [f64; 4]) -> bool
-    ensures { λ r. ⌜ r ≡ everySide isBelow s ⌝ }
-{
-    (s[0] < 0.0) & (s[1] < 0.0) & (s[2] < 0.0) & (s[3] < 0.0)
-}
-
-fn all_sign_positive(s: [f64; 4]) -> bool
-    ensures { λ r. ⌜ r ≡ everySide signPositive s ⌝ }
-{
-    is_sign_positive(s[0])
-        & is_sign_positive(s[1])
-        & is_sign_positive(s[2])
-        & is_sign_positive(s[3])
-}
-
-fn all_sign_negative(s: [f64; 4]) -> bool
-    ensures { λ r. ⌜ r ≡ everySide signNegative s ⌝ }
-{
-    is_sign_negative(s[0])
-        & is_sign_negative(s[1])
-        & is_sign_negative(s[2])
-        & is_sign_negative(s[3])
-}
 
 // Whether a point is equal to one of the four leg ends.
 fn at_end(p: SphericalPoint, arc_a: [[f64; 3]; 2], arc_b: [[f64; 3]; 2]) -> bool
@@ -122,40 +60,6 @@ fn end_or_clean(p: SphericalPoint, arc_a: [[f64; 3]; 2], arc_b: [[f64; 3]; 2]) -
     } else {
         Pair::Clean(p)
     }
-}
-
-// The greater of two floats, with no branch.
-fn greater(x: f64, y: f64) -> f64
-    ensures { λ r. ⌜ r ≡ pick (lt y x) x y ⌝ }
-{
-    if x > y { x } else { y }
-}
-
-// The smaller of two floats, with no branch.
-fn smaller(x: f64, y: f64) -> f64
-    ensures { λ r. ⌜ r ≡ pick (lt x y) x y ⌝ }
-{
-    if x < y { x } else { y }
-}
-
-fn some_above(s: [f64; 4]) -> bool
-    ensures { λ r. ⌜ (r ≡ true → someSide isAbove s ≡ true) ⌝ }
-{
-    greater(greater(s[0], s[1]), greater(s[2], s[3])) > 0.0
-}
-
-fn some_below(s: [f64; 4]) -> bool
-    ensures { λ r. ⌜ (r ≡ true → someSide isBelow s ≡ true) ⌝ }
-{
-    smaller(smaller(s[0], s[1]), smaller(s[2], s[3])) < 0.0
-}
-
-// Whether the four side values show that a pair is apart: none grazes, some is above zero and some below. With no
-// branch, for a pass over many pairs. It may miss such a pair, which is then tested as any other.
-pub fn shows_apart(s: [f64; 4]) -> bool
-    ensures { λ r. ⌜ (r ≡ true → showsApart s ≡ true) ⌝ }
-{
-    !some_grazing(s) & some_above(s) & some_below(s)
 }
 
 // The class by the four side values.

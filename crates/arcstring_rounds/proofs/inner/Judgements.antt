@@ -7,7 +7,7 @@ use native.Mathlib.Omega.{arith}
 use lib.ListN.{length, getD, length-map}
 use borrow.Author.Tests.{lt-ltb, le-ltb}
 use Rattle.sphericalpoint.specs.declared.SphericalPoint.{SphericalPoint}
-use Rattle.sphericalpoint.specs.Point.{xyzsCoplanar}
+use Rattle.sphericalpoint_coplanar.specs.Coplanar.{xyzsCoplanar}
 use Rattle.arcstring_check.specs.Answer.{pick}
 use Rattle.arcstring.specs.Points.{noPoint}
 use Rattle.arcstring_rounds.specs.Rounds.{thirdPosition, unnecessary}

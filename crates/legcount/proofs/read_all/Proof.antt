@@ -1,13 +1,13 @@
--- `read_all` holds what the reads gave, piece after piece, by textform's `Pieces`: after a read that gave some bytes there is one piece more. Only after a read
--- that gave none does it call the input whole. Assumes nothing.
+-- `read_all` holds what the reads gave, piece after piece, by textform_count's `Pieces`: after a read that gave some bytes there is one piece more. Only
+-- after a read that gave none does it call the input whole. Assumes nothing.
 use mathlib.Core.Path.{_≡_, sym, _∙_}
 use native.Mathlib.Omega.{arith}
 use lib.ListN.{length}
 use mir.Syntax.{w64}
 use mir.Val.{SFits}
 use Rattle.textform.specs.Kept.{floatsKept}
-use Rattle.textform.specs.Pieces.{mostRead, ReadInPieces}
-use Rattle.textform.proofs.Pieces.{no-pieces, one-more, none-more}
+use Rattle.textform_count.specs.Pieces.{mostRead, ReadInPieces}
+use Rattle.textform_count.proofs.Pieces.{no-pieces, one-more, none-more}
 use Rattle.legcount.proofs.Answers.{at-end, nothing-read, some-read}
 use borrow.Author.Needs.{needs}
 use Rattle.legcount.proofs.read_all.Statement.{statement}

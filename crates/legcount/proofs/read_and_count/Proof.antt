@@ -1,6 +1,6 @@
--- `read_and_count` concludes what was read whole, by textform's `Pieces`. Assumes nothing.
+-- `read_and_count` concludes what was read whole, by textform_count's `Pieces`. Assumes nothing.
 use mathlib.Core.Path.{subst}
-use Rattle.textform.proofs.Pieces.{read-and-printed}
+use Rattle.textform_count.proofs.Pieces.{read-and-printed}
 use Rattle.legcount.specs.declared.Input.{Input}
 use Rattle.legcount.specs.declared.Input.the-variants as I
 use Rattle.legcount.specs.Input.{HeldWhole}

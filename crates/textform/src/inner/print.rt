@@ -1,10 +1,9 @@
-// What the programs print: a heading and decimal counts, or a refusal's number.
+// What the programs print: texts, decimal numbers, and the line of a refusal.
 ghost use mathlib.Core.Path.{_≡_};
 ghost use mathlib.Core.List.{[], _∷_, _++_};
 ghost use Prim.Native.Nat.{_+_, _≤_, _<_};
 ghost use lib.ListN.{length, take};
-ghost use Rattle.textform.specs.Print.{printRoom, mostDigits, decimal, countsText, refusalText};
-use arcstring_tally::counts::Counts;
+ghost use Rattle.textform.specs.Print.{printRoom, mostDigits, decimal, refusalText};
 
 // Room for every text that is printed.
 pub const PRINT_ROOM: usize = 128;
@@ -36,25 +35,13 @@ fn put_decimal(out: &mut [u8], at: usize, n: u64) -> usize
 }
 
 // A number's decimal digits and a byte after them, from position `at` on; where they end.
-fn put_number(out: &mut [u8], at: usize, n: u64, after: u8) -> usize
+pub fn put_number(out: &mut [u8], at: usize, n: u64, after: u8) -> usize
     requires { ⌜ at + mostDigits < length (now out) ⌝ }
     ensures { λ r. ⌜ (r ≤ at + mostDigits + 1) × (take r (now (out .exit)) ≡ take at (now (out .entry)) ++ (decimal n ++ (after ∷ []))) ⌝ }
 {
     let end = put_decimal(out, at, n);
     out[end] = after;
     end + 1
-}
-
-// The heading, and the four counts below it; how many bytes.
-pub fn print_counts(c: Counts, out: &mut [u8]) -> usize
-    requires { ⌜ printRoom ≤ length (now out) ⌝ }
-    ensures { λ r. ⌜ (take r (now (out .exit)) ≡ countsText c) × (r ≤ printRoom) ⌝ }
-{
-    let at = put_text(out, 0, b"clean end grazing apart\n");
-    let at = put_number(out, at, c.clean, b' ');
-    let at = put_number(out, at, c.end, b' ');
-    let at = put_number(out, at, c.grazing, b' ');
-    put_number(out, at, c.apart, b'\n')
 }
 
 // One line: `refusal` and the number; how many bytes.

@@ -12,7 +12,7 @@ ghost use Rattle.textform.specs.Kept.{floatsKept, digitValue, inPlace, h
 ghost use Rattle.textform.specs.Kept as Kept;
 
 // The place of a row's first byte, and so how long the names line is.
-pub(crate) const ROW_START: usize = 13;
+pub const ROW_START: usize = 13;
 
 // The place of a row's last byte.
 const ROW_LAST: usize = 65;
@@ -30,7 +30,7 @@ const FLOAT_BYTES: usize = 17;
 const LAST_DIGIT_AT: usize = 16;
 
 // The points kept of a string.
-pub(crate) const POINTS_KEPT: usize = 1025;
+pub const POINTS_KEPT: usize = 1025;
 
 // Their floats.
 pub const FLOATS_KEPT: usize = 3 * POINTS_KEPT;

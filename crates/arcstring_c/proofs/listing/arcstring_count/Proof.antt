@@ -1,5 +1,5 @@
 -- The four counts are put into their places, and a refusal changes nothing. Assumes nothing.
-use Rattle.arcstring_put.specs.Put.{fourCounts}
+use Rattle.arcstring_put_found.specs.PutFound.{fourCounts}
 use Rattle.arcstring_listing.specs.Listing.{counted}
 use Rattle.arcstring_c.proofs.Places.{one-as}
 use Rattle.arcstring_c.proofs.listing.arcstring_count.Statement.{statement}

@@ -1,6 +1,6 @@
 -- The point is put into its place, and a refusal changes nothing. Assumes nothing.
 use Rattle.arcstring_put.specs.Put.{threeFloats}
-use Rattle.arcstring.specs.Point.{builtPoint}
+use Rattle.arcstring_point.specs.Point.{builtPoint}
 use Rattle.arcstring_c.proofs.Places.{one-as}
 use Rattle.arcstring_c.proofs.point.arcstring_point.Statement.{statement}
 use Rattle.arcstring_c.proofs.point.arcstring_point.Tie as tie

@@ -1,6 +1,6 @@
 -- The verdict on two points, as the string layer decides it. Assumes nothing.
 use Rattle.arcstring_check.specs.Answer.{flagNumber}
-use Rattle.arcstring.specs.Point.{equalPoints}
+use Rattle.arcstring_point.specs.Point.{equalPoints}
 use Rattle.arcstring_c.proofs.Places.{one-as}
 use Rattle.arcstring_c.proofs.point.arcstring_xyz_eq.Statement.{statement}
 use Rattle.arcstring_c.proofs.point.arcstring_xyz_eq.Tie as tie

@@ -1,6 +1,6 @@
 -- The verdict on three points, as the string layer decides it. Assumes nothing.
 use Rattle.arcstring_check.specs.Answer.{flagNumber}
-use Rattle.arcstring.specs.Point.{coplanarPoints}
+use Rattle.arcstring_point.specs.Point.{coplanarPoints}
 use Rattle.arcstring_c.proofs.Places.{one-as}
 use Rattle.arcstring_c.proofs.point.arcstring_xyzs_coplanar.Statement.{statement}
 use Rattle.arcstring_c.proofs.point.arcstring_xyzs_coplanar.Tie as tie

@@ -3,9 +3,9 @@ use mathlib.Core.List.{[], _∷_}
 use mathlib.Core.Path.{_∙_}
 use Rattle.arcstring_check.specs.Check.{storedCheck}
 use Rattle.arcstring_check.proofs.Answers.{refused-in-turn, accepted-in-turn}
-use Rattle.arcstring_relation.specs.Relation.{twoStrings}
+use Rattle.arcstring_against.specs.Against.{twoStrings}
 use Rattle.arcstring_equals.specs.Simplified.{equals}
-use Rattle.arcstring_relation.proofs.Relations.{four-accepted}
+use Rattle.arcstring_against.proofs.Against.{four-accepted}
 use borrow.Author.Needs.{needs}
 use Rattle.arcstring_equals.proofs.simplified.equals.Statement.{statement}
 use Rattle.arcstring_equals.proofs.simplified.equals.Tie as tie

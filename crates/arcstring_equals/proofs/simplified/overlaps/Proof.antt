@@ -3,14 +3,13 @@ use mathlib.Core.List.{[], _∷_}
 use mathlib.Core.Path.{_≡_, sym, ap, _∙_}
 use mathlib.Core.Bool.{Bool}
 use borrow.Author.Tests.{not-true, not-false}
-use Rattle.arcstring_check.specs.Answer.{Answer, unlessRefused}
+use Rattle.arcstring_check.specs.Answer.{Answer, unlessRefused, decidedAnswer}
 use Rattle.arcstring_check.specs.Check.{storedCheck}
-use Rattle.arcstring.specs.Point.{decidedAnswer}
 use Rattle.arcstring_check.proofs.Answers.{refused-in-turn, accepted-in-turn}
-use Rattle.arcstring_relation.specs.Relation.{twoStrings}
+use Rattle.arcstring_against.specs.Against.{twoStrings}
 use Rattle.arcstring_equals.specs.Simplified.{overlaps}
 use Rattle.arcstring_equals.proofs.Equals.{copies-refused, copies-differ, copies-equal}
-use Rattle.arcstring_relation.proofs.Relations.{four-accepted}
+use Rattle.arcstring_against.proofs.Against.{four-accepted}
 use borrow.Author.Needs.{needs}
 use Rattle.arcstring_equals.proofs.simplified.overlaps.Statement.{statement}
 use Rattle.arcstring_equals.proofs.simplified.overlaps.Tie as tie

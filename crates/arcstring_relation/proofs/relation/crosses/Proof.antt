@@ -4,8 +4,9 @@ use mathlib.Core.Path.{ap, _∙_}
 use Rattle.arcstring_check.specs.Answer.{answered}
 use Rattle.arcstring_check.specs.Check.{storedCheck}
 use Rattle.arcstring_check.proofs.Answers.{refused-in-turn, accepted-in-turn}
-use Rattle.arcstring_relation.specs.Relation.{twoStrings, crosses}
-use Rattle.arcstring_relation.proofs.Relations.{four-accepted}
+use Rattle.arcstring_against.specs.Against.{twoStrings}
+use Rattle.arcstring_relation.specs.Relation.{crosses}
+use Rattle.arcstring_against.proofs.Against.{four-accepted}
 use borrow.Author.Needs.{needs}
 use Rattle.arcstring_relation.proofs.relation.crosses.Statement.{statement}
 use Rattle.arcstring_relation.proofs.relation.crosses.Tie as tie

@@ -5,7 +5,7 @@ use Rattle.arcstring_check.specs.Answer.{answered}
 use Rattle.arcstring_check.specs.Check.{storedCheck}
 use Rattle.arcstring_check.proofs.Answers.{refused-in-turn, accepted-in-turn}
 use Rattle.arcstring_relation.specs.Relation.{within}
-use Rattle.arcstring_relation.proofs.Relations.{three-accepted}
+use Rattle.arcstring_against.proofs.Against.{three-accepted}
 use borrow.Author.Needs.{needs}
 use Rattle.arcstring_relation.proofs.relation.within.Statement.{statement}
 use Rattle.arcstring_relation.proofs.relation.within.Tie as tie

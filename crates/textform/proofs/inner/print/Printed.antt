@@ -1,17 +1,16 @@
--- What stands in the buffer once every part of a text is written, one after the other: a number and the byte after it, the counts, and a refusal.
--- Assumes nothing.
+-- What stands in the buffer once every part of a text is written, one after the other: a number and the byte after it, and a refusal. Assumes
+-- nothing.
 use mathlib.Core.Path.{_≡_, ap, _∙_}
 use mathlib.Core.List.{List, [], _∷_, _++_, append-assoc}
 use Prim.Native.Nat.{ℕ, _+_, _<_}
 use native.Mathlib.Numerals.{add-one}
 use lib.ListN.{length, take, set}
 use lib.Seq.{take-suc-set}
-use Rattle.arcstring_tally.specs.declared.counts.Counts.{Counts}
 use Rattle.textform.specs.Text.{blank, lineFeed}
-use Rattle.textform.specs.Print.{decimal, heading, refusalWord, countsText, refusalText}
+use Rattle.textform.specs.Print.{decimal, refusalWord, refusalText}
 
 -- one part more after what stands there already
-after : {xs ys : List ℕ} (zs : List ℕ) → xs ≡ ys → xs ++ zs ≡ ys ++ zs
+pub after : {xs ys : List ℕ} (zs : List ℕ) → xs ≡ ys → xs ++ zs ≡ ys ++ zs
 after zs e = ap (λ (l : List ℕ). l ++ zs) e
 
 -- a byte after a number's digits
@@ -21,19 +20,9 @@ number-written old out at n end byte room e =
     rw add-one (take-suc-set out end byte room) ∙ after (byte ∷ []) e ∙ append-assoc (take at old) (decimal n) (byte ∷ [])
 
 -- a number and the byte after it
-abbrev number : ℕ → ℕ → List ℕ
+abbrev pub number : ℕ → ℕ → List ℕ
 number n byte = decimal n ++ (byte ∷ [])
 
 pub refusal-written : (n : ℕ) (word all : List ℕ) → word ≡ refusalWord ++ (blank ∷ []) → all ≡ word ++ number n lineFeed → all ≡ refusalText n
 unfolding refusalText
 refusal-written n word all e f = f ∙ after (number n lineFeed) e ∙ simp append-assoc
-
-module _ (c : Counts) (line clean end grazing all : List ℕ) where
-  pub counts-written : line ≡ heading ++ (lineFeed ∷ []) → clean ≡ line ++ number (c .clean) blank → end ≡ clean ++ number (c .end) blank
-      → grazing ≡ end ++ number (c .grazing) blank → all ≡ grazing ++ number (c .apart) lineFeed → all ≡ countsText c
-  unfolding countsText
-  counts-written e₀ e₁ e₂ e₃ e₄ =
-      let clean-end = e₁ ∙ after (number (c .clean) blank) e₀ in
-      let end-end = e₂ ∙ after (number (c .end) blank) clean-end in
-      let grazing-end = e₃ ∙ after (number (c .grazing) blank) end-end in
-      e₄ ∙ after (number (c .apart) lineFeed) grazing-end ∙ simp append-assoc

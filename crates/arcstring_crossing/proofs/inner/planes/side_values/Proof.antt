@@ -1,6 +1,6 @@
 -- The four side values. Assumes nothing.
 use Rattle.arcstring_crossing.specs.Plane.{planeSides}
-use Rattle.arcstring_pair.proofs.Signs.{four-alike}
+use Rattle.arcstring_sides.proofs.Signs.{four-alike}
 use Rattle.arcstring_crossing.proofs.inner.planes.side_values.Statement.{statement}
 use Rattle.arcstring_crossing.proofs.inner.planes.side_values.Tie as tie
 

@@ -1,0 +1,2 @@
+-- The definitions of two strings held against each other.
+pub mod Against

@@ -1,0 +1,2 @@
+-- The definition of nearness.
+pub mod Near

@@ -1,0 +1,37 @@
+-- The pairs that the calls visit are those that the walks over the legs of an accepted string visit, and how many they keep at most. Assumes nothing.
+use mathlib.Core.Path.{_≡_, ap, _∙_}
+use mathlib.Core.Bool.{Bool, false}
+use mathlib.Core.List.{List}
+use Prim.Native.Nat.{ℕ, _/_, _-_, _*_, _<_, _≤_}
+use native.Mathlib.Nat.{mul-zero}
+use native.Mathlib.Omega.{arith}
+use lib.ListN.{length}
+use lib.Ieee.{Float}
+use Rattle.arcstring_check.specs.Check.{storedCheck}
+use Rattle.arcstring.specs.Points.{points}
+use Rattle.arcstring.specs.Leg.{legs, legsFrom, legCount}
+use Rattle.arcstring.proofs.Flat.{count-points}
+use Rattle.arcstring_tally.specs.Pairs.{pairsWithin, keptMarks}
+use Rattle.arcstring_tally.proofs.Tallies.{kept-bound}
+use Rattle.arcstring_visit.proofs.Rows.{length-self}
+use Rattle.arcstring_listing.proofs.Visits.{all-legs}
+use Rattle.arcstring_self.specs.SelfListing.{selfPairs}
+
+pub self-visits : (v : List Float) (closed : Bool) (l : ℕ) → storedCheck v ≡ 0 → l ≡ legCount (length v / 3) closed
+    → pairsWithin (legsFrom v 0 l) ≡ selfPairs v closed
+unfolding selfPairs
+self-visits v closed l accepted count = ap pairsWithin (all-legs v closed l accepted count)
+
+-- twice as many points as a string's pairs with itself keep
+pub kept-self : (v : List Float) → length (keptMarks (selfPairs v false)) * 2 ≤ (length v / 3 - 2) * (length v / 3 - 3)
+unfolding selfPairs
+kept-self v =
+    let ps = pairsWithin (legs (points v) false) in
+    let e : length ps * 2 ≡ (length v / 3 - 2) * (length v / 3 - 3) = length-self (points v) ∙ ap (λ (k : ℕ). (k - 2) * (k - 3)) (count-points v) in
+    omega (arith, kept-bound ps, e)
+
+pub kept-few : (v : List Float) → length v / 3 < 4 → length (keptMarks (selfPairs v false)) ≡ 0
+kept-few v h =
+    let z : length v / 3 - 3 ≡ 0 = omega arith in
+    let e : (length v / 3 - 2) * (length v / 3 - 3) ≡ 0 = ap (λ (k : ℕ). (length v / 3 - 2) * k) z ∙ mul-zero (length v / 3 - 2) in
+    omega (arith, kept-self v, e)

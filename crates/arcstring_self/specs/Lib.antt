@@ -1,0 +1,2 @@
+-- The definitions of the crossings of a string with itself.
+pub mod SelfListing

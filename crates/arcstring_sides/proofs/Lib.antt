@@ -1,0 +1,3 @@
+-- The laws of the tests of side values, for the proofs of the pair test too.
+pub mod Signs
+pub mod Aparts

@@ -1,0 +1,12 @@
+-- The smaller of two floats. Assumes nothing.
+use Rattle.arcstring_sides.proofs.inner.smaller.Statement.{statement}
+use Rattle.arcstring_sides.proofs.inner.smaller.Tie as tie
+
+returns : tie.Need-returns
+returns c = rw (c .if1 .taken)
+
+returns-2 : tie.Need-returns-2
+returns-2 c = rw (c .if1 .left)
+
+pub smaller-spec : {M : Type 1} → statement M
+smaller-spec = tie.close (tie.spec returns returns-2)

@@ -1,0 +1,2 @@
+-- The definitions of the tests of side values.
+pub mod Sides

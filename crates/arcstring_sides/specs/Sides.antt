@@ -1,0 +1,41 @@
+-- Tests of the four side values of a pair of legs, as document 01 and the Rust's `arcs_crossing` have them. Definitions only.
+use mathlib.Core.Bool.{Bool, true, false, not, _&&_, _||_}
+use mathlib.Core.List.{List, [], _∷_}
+use lib.IntN.{pos}
+use lib.Ieee.{Float, nan, inf, fin, lt, eq}
+
+abbrev pub zeroFloat : Float
+zeroFloat = fin false 0 (pos 0)
+
+-- a side value grazes: it is zero
+unfoldable pub grazes : Float → Bool
+grazes x = eq x zeroFloat
+
+unfoldable pub isAbove : Float → Bool
+isAbove x = lt zeroFloat x
+
+unfoldable pub isBelow : Float → Bool
+isBelow x = lt x zeroFloat
+
+-- Rust's `is_sign_negative`, of a zero too, and `is_sign_positive`. A NaN has no sign here.
+unfoldable pub signNegative : Float → Bool
+signNegative nan = false
+signNegative (inf s) = s
+signNegative (fin s m e) = s
+
+unfoldable pub signPositive : Float → Bool
+signPositive nan = false
+signPositive (inf s) = not s
+signPositive (fin s m e) = not s
+
+unfoldable pub someSide : (Float → Bool) → List Float → Bool
+someSide t [] = false
+someSide t (s ∷ l) = t s || someSide t l
+
+unfoldable pub everySide : (Float → Bool) → List Float → Bool
+everySide t [] = true
+everySide t (s ∷ l) = t s && everySide t l
+
+-- the side values show that a pair is apart: none grazes, some is above zero and some below
+unfoldable pub showsApart : List Float → Bool
+showsApart s = not (someSide grazes s) && someSide isAbove s && someSide isBelow s

@@ -1,0 +1,3 @@
+-- The laws of sizes, for the proofs of `src/`.
+mod Sizes
+mod Magnitudes

@@ -1,0 +1,3 @@
+-- The laws of the test of three points, for the proofs of `src/`.
+mod Cases
+mod FarOff

@@ -1,0 +1,2 @@
+-- Three points on one leg, as sphericalpoint.rs has it.
+pub mod Coplanar

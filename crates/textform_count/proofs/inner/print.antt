@@ -1,0 +1,2 @@
+-- The law of printing: the counts, part by part.
+mod Printed

@@ -1,0 +1,24 @@
+-- What the counting program prints: a heading and decimal counts, or a refusal's number. Definitions only.
+use mathlib.Core.List.{List, [], _∷_, _++_}
+use Prim.Native.Nat.{ℕ}
+use Rattle.arcstring_check.specs.Answer.{Answer, refused, answered}
+use Rattle.arcstring_tally.specs.declared.counts.Counts.{Counts}
+use Rattle.textform.specs.Text.{blank, lineFeed}
+use Rattle.textform.specs.Print.{decimal, refusalText}
+
+-- `clean end grazing apart`
+abbrev pub heading : List ℕ
+heading = 99 ∷ 108 ∷ 101 ∷ 97 ∷ 110 ∷ 32 ∷ 101 ∷ 110 ∷ 100 ∷ 32 ∷ 103 ∷ 114 ∷ 97 ∷ 122 ∷ 105 ∷ 110 ∷ 103 ∷ 32 ∷ 97 ∷ 112 ∷ 97 ∷ 114 ∷ 116 ∷ []
+
+unfoldable pub countsText : Counts → List ℕ
+countsText c =
+    heading
+    ++ (lineFeed ∷ (decimal (c .clean)
+    ++ (blank ∷ (decimal (c .end)
+    ++ (blank ∷ (decimal (c .grazing)
+    ++ (blank ∷ (decimal (c .apart)
+    ++ (lineFeed ∷ [])))))))))
+
+abbrev pub printed : Answer Counts → List ℕ
+printed (refused n) = refusalText n
+printed (answered c) = countsText c
