@@ -2,15 +2,15 @@
 use mathlib.Core.Path.{_≡_, refl, sym, _∙_}
 use mathlib.Core.Bool.{Bool, true, false, _&&_, _||_}
 use mathlib.Core.List.{List, [], _∷_}
-use Prim.Native.Nat.{ℕ, zero, suc, _+_, _*_, _<_}
+use Prim.Native.Nat.{ℕ, zero, suc, _+_, _*_}
 use native.Mathlib.Omega.{arith}
-use native.Mathlib.Nat.{zero-mul, mul-pos}
+use native.Mathlib.Nat.{zero-mul}
 use lib.IntN.{ℤ}
 use lib.ListN.{length, getD}
 use lib.Ieee.{Float, nan, inf, fin, binary64, ofBits, lt, eq, div, up, down}
-use lib.Ieee.Fits.{up-pos}
 use borrow.Author.Tests.{eqb-true, lt-ltb, le-ltb}
 use Rattle.ieee754.proofs.Tests.{never, and-first}
+use Rattle.ieee754.proofs.Zeros.{scaled-pos, zero-level}
 use Rattle.arcstring_sides.specs.Sides.{signNegative, signPositive, someSide, everySide}
 
 abbrev zero64 : Float
@@ -18,15 +18,6 @@ zero64 = ofBits binary64 0
 
 abbrev one64 : Float
 one64 = ofBits binary64 0x3ff0_0000_0000_0000
-
--- a positive number times a power of two
-scaled-pos : (m : ℕ) (e : ℤ) → 0 < suc m * up e
-scaled-pos m e = mul-pos (omega arith) (up-pos e)
-
-zero-level : (s : Bool) (e : ℤ) → eq (fin s zero e) zero64 ≡ true
-unfolding eq ofBits
-zero-level true e = simp zero-mul
-zero-level false e = simp zero-mul
 
 -- only a zero equals zero
 zero-only : (s : Bool) (m : ℕ) (e : ℤ) → eq (fin s (suc m) e) zero64 ≡ true → ⊥

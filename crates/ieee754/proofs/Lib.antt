@@ -1,11 +1,12 @@
--- The laws of the kit's floats, all for others to cite: of joined tests (`Tests`), of values and signs (`Rounding`, `Arithmetic`, `ByValue`, `Comparisons`), of
--- sizes (`Bounds`), and of
--- how far rounded operations lie from the exact ones (`Units`, `Spacing`, `Rounded`, `Operations`, in the words of `Closeness`).
+-- The laws of the kit's floats, all for others to cite: of joined tests (`Tests`), of values and signs (`Rounding`, `Arithmetic`, `ByValue`, `Comparisons`,
+-- `Zeros`), of sizes (`Bounds`), and of how far rounded operations lie from the exact ones (`Units`, `Spacing`, `Rounded`, `Operations`, in the words of
+-- `Closeness`).
 pub mod Tests
 pub mod Rounding
 pub mod Arithmetic
 pub mod ByValue
 pub mod Comparisons
+pub mod Zeros
 pub mod Bounds
 pub mod Units
 pub mod Spacing
