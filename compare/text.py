@@ -34,7 +34,7 @@ ROW = 53
 BUFFER = 4096
 
 
-# ---- the expected answer, from document 01's words
+# ---- the expected answer, from the words of docs/TERMS.md
 
 def floats_of(row):
     """the name and the three floats of a row, or None"""

@@ -1,57 +1,102 @@
-/* Counts how a boat's track crosses an ice limit between two buoys, and lists where: longitudes and latitudes in, longitudes and
- * latitudes out.
+/* Counts how a boat's track crosses an ice limit between two buoys, and lists where: longitudes and latitudes in,
+ * longitudes and latitudes out.
  *
  *     rt staticlib arcstring_c
- *     cc -std=c99 -Wall -Wextra -Werror -Iinclude examples/limit.c target/staticlib/libarcstring_c.a -lm -o limit
+ *     cc -std=c99 -Wall -Wextra -Iinclude examples/limit.c target/staticlib/libarcstring_c.a -lm -o target/limit
+ *     target/limit
  */
 #include "arcstring.h"
 #include <inttypes.h>
 #include <math.h>
 #include <stdio.h>
+#include <stdlib.h>
 
 #define DEGREE (3.14159265358979323846 / 180.0)
 #define LENGTH(list) (sizeof(list) / sizeof((list)[0]))
 
-/* longitude and latitude, in degrees; a buoy for each, or 0 for none */
-static const double limit[][2] = {{20, -47}, {40, -47.5}, {55, -48.5}, {70, -49}, {85, -49.5}, {100, -50}, {115, -51}, {130, -51.5}};
-static const double track[][2] = {{46.5, -46.2}, {54.1, -47.1}, {61.8, -49.9}, {69.7, -50.4}, {77.9, -48.2}, {86.3, -47.6}, {94.8, -48.3}};
-static const uint32_t limit_buoys[LENGTH(limit)] = {101, 102, 103, 104, 105, 106, 107, 108}, track_buoys[LENGTH(track)] = {0};
+/* a longitude and a latitude, in degrees, and the number of a buoy there, or 0 for none */
+struct place { double lon, lat; uint32_t buoy; };
 
-/* a string's vertices in v and their buoys in b, which have room for n points; what arcstring_build returns */
-static uint32_t build(const double (*degrees)[2], const uint32_t *buoys, size_t n, double *v, uint32_t *b, size_t *count, uint8_t *closed)
+static const struct place limit[] = {{20, -47, 101}, {40, -47.5, 102}, {55, -48.5, 103}, {70, -49, 104},
+                                     {85, -49.5, 105}, {100, -50, 106}, {115, -51, 107}, {130, -51.5, 108}};
+static const struct place track[] = {{46.5, -46.2, 0}, {54.1, -47.1, 0}, {61.8, -49.9, 0}, {69.7, -50.4, 0},
+                                     {77.9, -48.2, 0}, {86.3, -47.6, 0}, {94.8, -48.3, 0}};
+
+struct string { double *v; uint32_t *buoys; size_t count; uint8_t closed; };
+
+static void *room(size_t n, size_t size)
 {
-    double points[3 * 64];
+    void *memory = calloc(n > 0 ? n : 1, size);
+    if (memory == NULL) exit(2);
+    return memory;
+}
+
+/* ends the program where a call said no */
+static void expect(uint32_t refusal)
+{
+    if (refusal == ARCSTRING_NOT_REFUSED) return;
+    fprintf(stderr, "refusal %" PRIu32 ": %s\n", refusal, arcstring_refusal_words(refusal));
+    exit(1);
+}
+
+/* the string that n places make; a built string never has more vertices than it was given points */
+static struct string build(const struct place *places, size_t n)
+{
+    struct string s = {room(n, 3 * sizeof(double)), room(n, sizeof(uint32_t)), 0, 0};
+    double *points = room(n, 3 * sizeof(double));
+    uint32_t *buoys = room(n, sizeof(uint32_t));
     size_t i;
     for (i = 0; i < n; i++) {
-        double lon = degrees[i][0] * DEGREE, lat = degrees[i][1] * DEGREE;
+        double lon = places[i].lon * DEGREE, lat = places[i].lat * DEGREE;
         points[3 * i] = cos(lat) * cos(lon);
         points[3 * i + 1] = cos(lat) * sin(lon);
         points[3 * i + 2] = sin(lat);
+        buoys[i] = places[i].buoy;
     }
-    return arcstring_build(points, 3 * n, buoys, n, v, 3 * n, b, n, count, closed);
+    expect(arcstring_build(points, 3 * n, buoys, n, s.v, 3 * n, s.buoys, n, &s.count, &s.closed));
+    free(points), free(buoys);
+    return s;
+}
+
+/* a kept point, of any length; a grazing one may be the zero vector, and + 0.0 makes the sign of a zero plain */
+static void print(const char *mark, const double *p)
+{
+    double x = p[0] + 0.0, y = p[1] + 0.0, z = p[2] + 0.0;
+    if (x == 0 && y == 0 && z == 0)
+        printf("%s, at no one place\n", mark);
+    else
+        printf("%s crossing at %.3f, %.3f\n", mark, atan2(y, x) / DEGREE, atan2(z, hypot(x, y)) / DEGREE);
+}
+
+/* counts first, which tells how much to lend for the listing */
+static void list(const struct string *a, const struct string *b)
+{
+    uint64_t counts[4];
+    size_t most, kept, i;
+    double *points;
+    uint8_t *marks;
+    expect(arcstring_count(a->v, 3 * a->count, a->closed, b->v, 3 * b->count, b->closed, counts));
+    most = (size_t)(counts[ARCSTRING_CLEAN - 1] + counts[ARCSTRING_GRAZING - 1]);
+    points = room(most, 3 * sizeof(double)), marks = room(most, 1);
+    expect(arcstring_crossings(a->v, 3 * a->count, a->closed, b->v, 3 * b->count, b->closed,
+                               points, 3 * most, marks, most, &kept, counts));
+    printf("clean %" PRIu64 ", end %" PRIu64 ", grazing %" PRIu64 ", apart %" PRIu64 "\n",
+           counts[0], counts[1], counts[2], counts[3]);
+    for (i = 0; i < kept; i++)
+        print(marks[i] ? "clean" : "grazing", points + 3 * i);
+    free(points), free(marks);
 }
 
 int main(void)
 {
-    double a[3 * LENGTH(track)], b[3 * LENGTH(limit)], points[3 * 16];
-    uint32_t a_buoys[LENGTH(track)], b_buoys[LENGTH(limit)];
-    uint8_t a_closed, b_closed, marks[16];
-    size_t a_count, b_count, kept, i;
-    uint64_t counts[4];
-    uint32_t refusal = build(track, track_buoys, LENGTH(track), a, a_buoys, &a_count, &a_closed);
-    if (refusal == 0)
-        refusal = build(limit, limit_buoys, LENGTH(limit), b, b_buoys, &b_count, &b_closed);
-    if (refusal == 0)
-        refusal = arcstring_crossings(a, 3 * a_count, a_closed, b, 3 * b_count, b_closed, points, LENGTH(points), marks, LENGTH(marks), &kept, counts);
-    if (refusal != 0) {
-        printf("refusal %" PRIu32 "\n", refusal);
-        return 1;
+    struct string a, b;
+    if (arcstring_version() != ARCSTRING_VERSION) {
+        fputs("the header is of another version than the library\n", stderr);
+        return 2;
     }
-    printf("limit from buoy %" PRIu32 " to buoy %" PRIu32 "\n", b_buoys[0], b_buoys[b_count - 1]);
-    printf("clean %" PRIu64 ", end %" PRIu64 ", grazing %" PRIu64 ", apart %" PRIu64 "\n", counts[0], counts[1], counts[2], counts[3]);
-    for (i = 0; i < kept; i++) {
-        const double *p = points + 3 * i;
-        printf("%s crossing at %.3f, %.3f\n", marks[i] ? "clean" : "grazing", atan2(p[1], p[0]) / DEGREE, atan2(p[2], hypot(p[0], p[1])) / DEGREE);
-    }
+    a = build(track, LENGTH(track)), b = build(limit, LENGTH(limit));
+    printf("limit from buoy %" PRIu32 " to buoy %" PRIu32 "\n", b.buoys[0], b.buoys[b.count - 1]);
+    list(&a, &b);
+    free(a.v), free(a.buoys), free(b.v), free(b.buoys);
     return 0;
 }

@@ -1,4 +1,4 @@
-//! Document 01's classes of a pair of legs, which the published Rust does not have: worked out with the published vector functions,
+//! The classes of docs/TERMS.md of a pair of legs, which the published Rust does not have: worked out with the published vector functions,
 //! beside the point that the published `arcs_crossing` gives.
 use crate::random::Xyz;
 use sphersgeo::arcstring::arcs_crossing;

@@ -109,7 +109,7 @@ fn run(v: &[f64], from: usize, to: usize) -> Answer {
     Answer { numbers: if whole { vec![3 * from as u64, 3 * (to - from) as u64] } else { vec![0, 0] }, ..Answer::default() }
 }
 
-/// the published point, and whether the published listing of the first leg with the second keeps one; the class is document 01's
+/// the published point, and whether the published listing of the first leg with the second keeps one; the class is docs/TERMS.md's
 fn pair(a: Leg, b: Leg) -> Answer {
     let point = arcs_crossing((&a.0, &a.1), (&b.0, &b.1));
     let second = flat(&[b.0, b.1]);

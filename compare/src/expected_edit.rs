@@ -1,5 +1,5 @@
 //! What simplify, insert_vertices, the splits, equals and overlaps are to answer for accepted lists: the published Rust's results, its
-//! panics as document 01's 5 and 6, and the 3 of a result, which the published Rust does not have: the points are given a few more at
+//! panics as the refusals 5 and 6, and the 3 of a result, which the published Rust does not have: the points are given a few more at
 //! a time, and the first result over 1,024 points ends it, since no cut and no insertion makes a result shorter. The buoys come with the
 //! vertices of `numbered`, which must be the published ones.
 use crate::answers::{Answer, Expected, string, verdict};
@@ -44,7 +44,7 @@ pub fn quiet_panics() {
     }));
 }
 
-/// what the published call gives, or document 01's number of its panic
+/// what the published call gives, or the refusal's number of its panic
 fn published<T>(call: impl FnOnce() -> T) -> Result<T, u32> {
     EXPECTED.set(true);
     let result = catch_unwind(AssertUnwindSafe(call));

@@ -1,4 +1,4 @@
-//! The published build, simplify, insert_vertices and split over vertices that carry their buoys, as document 02 asks: each number goes
+//! The published build, simplify, insert_vertices and split over vertices that carry their buoys, as docs/TERMS.md has it: each number goes
 //! where its vertex goes, and a point put in or cut at brings its own. The tests of points and the normalising are the published ones;
 //! what else is done is written down again, step by step, and `expected_edit` holds the vertices to the published result.
 use crate::lists::triples;

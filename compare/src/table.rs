@@ -1,4 +1,4 @@
-//! Document 01's table of refusals with document 02's 10, read independently of the proved library: the list checks of each call, in number
+//! docs/TERMS.md's table of refusals, read independently of the proved library: the list checks of each call, in number
 //! order within a list but for 10, which comes right after 1, and the lists in the sequence that it gives.
 use crate::request::{Call, Request};
 

@@ -1,4 +1,4 @@
-//! Stand-in for the crate kiddo: a plain list in the place of the k-d tree, as document 01 reads it. The distance of
+//! Stand-in for the crate kiddo: a plain list in the place of the k-d tree, as docs/TERMS.md reads it. The distance of
 //! an entry is (dx·dx + dy·dy) + dz·dz, and the nearest entry is the first with the least distance.
 use std::marker::PhantomData;
 use std::num::NonZero;

@@ -1,4 +1,4 @@
-// Lists of points as document 01 has them: vertices and legs, above the checks of arcstring_check. A list of points is flat, three floats a
+// Lists of points as docs/TERMS.md has them: vertices and legs, above the checks of arcstring_check. A list of points is flat, three floats a
 // point. `inner`, which is all of it, is for the crates of the layer, not for users.
 //
 // The calls are in the crates above, which take any lists, flags and positions and say by their contracts what they answer and what they

@@ -1,4 +1,4 @@
--- Whether a point is near an entry of the near list, and whether it is along a string, as document 01 reads `point_within_kdtree` and
+-- Whether a point is near an entry of the near list, and whether it is along a string, as docs/TERMS.md reads `point_within_kdtree` and
 -- `point_is_along_arcstring`. Definitions only.
 use mathlib.Core.Bool.{Bool, true, false, _||_}
 use mathlib.Core.List.{List, [], _∷_}

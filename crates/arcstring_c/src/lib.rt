@@ -17,6 +17,7 @@
 //     insert      vertices inserted
 //     split_leg   a leg split
 //     split       a string split
+//     version     which version of the header belongs to the library
 pub mod along;
 pub mod build;
 pub mod crossing;
@@ -29,5 +30,6 @@ pub mod simplified;
 pub mod simplify;
 pub mod split;
 pub mod split_leg;
+pub mod version;
 pub mod walk;
 pub mod with_self;

@@ -1,4 +1,5 @@
--- What a call answers, in document 01's words: the number of a refusal, or a result; and what it leaves in a buffer that was lent to it. Definitions only.
+-- What a call answers, in the words of docs/TERMS.md: the number of a refusal, or a result; and what it leaves in a buffer that was lent to it. Definitions
+-- only.
 use mathlib.Core.Bool.{Bool, true, false}
 use mathlib.Core.List.{List, _++_}
 use Prim.Native.Nat.{ℕ, zero, suc}
@@ -9,7 +10,7 @@ use Rattle.arcstring_check.specs.declared.check.Refusal.{Refusal}
 use Rattle.arcstring_check.specs.declared.check.Refusal.the-variants.{NotTriples, TooFewPoints, TooManyPoints, OutOfRange, RemovesPastEnd, ReadsPastEnd}
 use Rattle.arcstring_check.specs.declared.check.Refusal.the-variants.{NoRoom, BuoysNotAsMany}
 
--- the numbers of document 01's table, and document 02's 10
+-- the numbers of docs/TERMS.md's table of refusals
 abbrev pub refusalNumber : Refusal → ℕ
 refusalNumber NotTriples = 1
 refusalNumber TooFewPoints = 2

@@ -1,4 +1,4 @@
--- The checks of document 01's table on what is handed in, and document 02's 10: each list's in number order, 10 right after 1. 0 where all is well, else the
+-- The checks of docs/TERMS.md's table on what is handed in: each list's in number order, 10 right after 1. 0 where all is well, else the
 -- number of the first refusal. Definitions only.
 use mathlib.Core.Bool.{Bool, true, false, not, _&&_}
 use mathlib.Core.List.{List, [], _∷_}

@@ -1,4 +1,4 @@
-// What a call answers: why it refuses, by the numbers of document 01's table and document 02's 10; a verdict; how many vertices it wrote.
+// What a call answers: why it refuses, by the numbers of docs/TERMS.md's table; a verdict; how many vertices it wrote.
 ghost use mathlib.Core.Path.{_≡_};
 ghost use Rattle.arcstring_check.specs.Answer.{refusalNumber};
 

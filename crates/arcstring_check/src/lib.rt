@@ -1,4 +1,4 @@
-// What the string layer refuses, by document 01's numbers and document 02's 10: the lowest crate of the layer, above the promises of the
+// What the string layer refuses, by the numbers of docs/TERMS.md: the lowest crate of the layer, above the promises of the
 // vector layer. A list of points is flat, three floats a point.
 //
 //     check     what a call answers: why it refuses, a verdict, how many vertices it wrote

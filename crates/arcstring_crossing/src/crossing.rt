@@ -1,4 +1,4 @@
-// The class of a pair of legs: document 01's, over the source's `arcs_crossing`.
+// The class of a pair of legs: docs/TERMS.md's, over the source's `arcs_crossing`.
 ghost use mathlib.Core.Path.{_≡_};
 ghost use Rattle.arcstring.specs.Leg.{legOf};
 ghost use Rattle.arcstring_pair.specs.Pair.{pairOf, arcsCrossing};

@@ -208,7 +208,7 @@ fn same_simplified(a: &[f64], a_closed: bool, b: &[f64], b_closed: bool) -> Deci
     }
 }
 
-// Whether two strings overlap as the source has it: simplified copies of them are equal, neither is within the other, and a
+// Whether two strings overlap as the source has it: simplified copies of them are `equals`, neither is within the other, and a
 // leg of the first has both ends along the second. Refuses by 1, 3 and 4 of each list in turn, by 5 where a copy gets it, and by
 // 6 where the legs of a closed first string come to the last one.
 pub fn overlaps(

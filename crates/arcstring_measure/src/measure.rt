@@ -66,8 +66,8 @@ fn put_turns(v: &[f64], n: usize, closed: bool, out: &mut [f64])
     }
 }
 
-// A float for each vertex: NaN at both ends of an open string, otherwise the inner product that is negative at a right
-// turn and positive at a left one. Refuses by 1, 3 and 4 of the vertices, and by 7.
+// A float for each vertex: NaN at both ends of an open string, otherwise the inner product that is negative at a left
+// turn and positive at a right one, as seen from above the sphere. Refuses by 1, 3 and 4 of the vertices, and by 7.
 pub fn xyzs_turn_orientations(v: &[f64], closed: bool, out: &mut [f64]) -> Written
     ensures { λ r. ⌜ writtenAnswer r ≡ turnsResult (turnOrientations (now (v .entry)) closed (length (now (out .entry)))) ⌝ }
     ensures { λ _. ⌜ now (out .exit) ≡ leaves (turnOrientations (now (v .entry)) closed (length (now (out .entry)))) (now (out .entry)) ⌝ }

@@ -1,4 +1,4 @@
--- Whether a point is near an entry of a near list, as document 01 reads `point_within_kdtree`. Definitions only.
+-- Whether a point is near an entry of a near list, as docs/TERMS.md reads `point_within_kdtree`. Definitions only.
 use mathlib.Core.Bool.{Bool}
 use lib.Ieee.{Float, lt}
 use Rattle.sphericalpoint.specs.declared.SphericalPoint.{SphericalPoint}

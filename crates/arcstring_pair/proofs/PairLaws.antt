@@ -1,4 +1,4 @@
--- Every pair of legs in range has the Rust's point, keeps what the Rust keeps, and is of the class that document 01's words describe. Assumes nothing.
+-- Every pair of legs in range has the Rust's point, keeps what the Rust keeps, and is of the class that the words of docs/TERMS.md describe. Assumes nothing.
 use mathlib.Core.Path.{_≡_, refl, sym, ap, subst, _∙_}
 use mathlib.Core.Bool.{Bool, true, false, not, _&&_, _||_}
 use mathlib.Core.List.{List, [], _∷_, List·Memᴰ, List·Memᴰ·head, List·Memᴰ·tail}

@@ -1,4 +1,4 @@
--- The class of a pair of legs, as document 01 defines it over the Rust's `arcs_crossing`. Definitions only.
+-- The class of a pair of legs, as docs/TERMS.md defines it over the Rust's `arcs_crossing`. Definitions only.
 use mathlib.Core.Bool.{Bool, true, false, _||_}
 use mathlib.Core.List.{List, [], _∷_}
 use mathlib.Core.Option.{Option, none, some}
@@ -52,7 +52,7 @@ grazingOutcome t a b s = pick (everySide signPositive s) (keptOrDropped t a b) (
 unfoldable pub endOrClean : SphericalPoint → Leg → Leg → Pair
 endOrClean p a b = pick (atEnd p a b) (End p) (Clean p)
 
--- document 01's classes. t is not normalised before the end test.
+-- the four classes. t is not normalised before the end test.
 unfoldable pub classAt : SphericalPoint → Leg → Leg → List Float → Pair
 classAt t a b s =
     pick (someSide grazes s) (Grazing (grazingOutcome t a b s))
@@ -61,9 +61,9 @@ classAt t a b s =
 unfoldable pub pairOf : Leg → Leg → Pair
 pairOf a b = classAt (meeting a b) a b (sideValues a b (meeting a b))
 
--- ---- a pair in document 01's numbers and values
+-- ---- a pair in the numbers and values of docs/TERMS.md
 
--- the number of its class, in the sequence in which document 01 counts them: 1 clean, 2 end, 3 grazing, 4 apart
+-- the number of its class, in the sequence in which the counts stand: 1 clean, 2 end, 3 grazing, 4 apart
 abbrev pub classNumber : Pair → ℕ
 classNumber (Clean p) = 1
 classNumber (End p) = 2

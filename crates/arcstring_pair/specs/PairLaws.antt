@@ -1,5 +1,5 @@
 -- What is claimed of every pair of legs with coordinates from -1 to 1: its point is the one that the Rust's `arcs_crossing` answers, the listings keep what the
--- Rust's keep, and its class is the one that document 01's words describe. Definitions only.
+-- Rust's keep, and its class is the one that the words of docs/TERMS.md describe. Definitions only.
 -- The proofs are `pair-call-in-words`, `pairs-in-words`, `string-legs-accepted` and `judged-apart` of `proofs/PairLaws.antt`.
 use mathlib.Core.Path.{_≡_}
 use mathlib.Core.Bool.{Bool, false, not, _&&_, _||_}
@@ -43,7 +43,7 @@ answersEnd (some p) a b = atEnd p a b
 unfoldable pub rustKept : Leg → Leg → Option SphericalPoint
 rustKept a b = pick (answersEnd (rustCrossing a b) a b) none (rustCrossing a b)
 
--- ---- document 01's words
+-- ---- the words of docs/TERMS.md
 
 -- the four side values, each with the sign that it has when the Rust compares it
 abbrev pub sides : Leg → Leg → List Float

@@ -1,4 +1,4 @@
-// Vertices that lie along the string removed, round by round, as the source's `simplify` removes them. The rounds move
+// Unnecessary vertices removed, round by round, as the source's `simplify` judges and removes them. The rounds move
 // positions of the lent vertices; what stands at those that are left is gathered at the end.
 ghost use mathlib.Core.Path.{_≡_};
 ghost use mathlib.Core.List.{map};

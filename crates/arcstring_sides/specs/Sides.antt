@@ -1,4 +1,4 @@
--- Tests of the four side values of a pair of legs, as document 01 and the Rust's `arcs_crossing` have them. Definitions only.
+-- Tests of the four side values of a pair of legs, as docs/TERMS.md and the Rust's `arcs_crossing` have them. Definitions only.
 use mathlib.Core.Bool.{Bool, true, false, not, _&&_, _||_}
 use mathlib.Core.List.{List, [], _∷_}
 use lib.IntN.{pos}

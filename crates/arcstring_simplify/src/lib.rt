@@ -2,5 +2,5 @@
 // flags, and says by its contract what it answers and what it leaves in each buffer that it was lent. The work is done in local lists,
 // so that a refusal that is found on the way leaves every buffer as it came.
 //
-//     simplify   vertices that lie along the string removed
+//     simplify   unnecessary vertices of a string removed
 pub mod simplify;

@@ -1,4 +1,4 @@
-// A string simplified: the vertices that lie along it removed, each number with its vertex.
+// A string simplified: its unnecessary vertices removed, each number with its vertex.
 ghost use mathlib.Core.Path.{_≡_};
 ghost use Prim.Native.Nat.{_/_, _≤_, _<_};
 ghost use lib.ListN.{length};
@@ -48,7 +48,7 @@ fn simplify_in(
     Written::Vertices(n)
 }
 
-// The string without the vertices that lie along it, as the source judges them; each number stays with its vertex. Flag and
+// The string without its unnecessary vertices, as the source judges and removes them; each number stays with its vertex. Flag and
 // near list stay. Refuses by 1, 10, 3 and 4 of the vertices, by 5 where a removal lies past the end, and by 7.
 // The lists are set to zero first, which for a short string would take longer than its rounds: so there are two sizes.
 pub fn simplify(

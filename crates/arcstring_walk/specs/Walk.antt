@@ -1,4 +1,4 @@
--- Walking a string backwards, restarting a closed one, and the run of vertices between two positions, as document 01 adds them. Definitions only.
+-- Walking a string backwards, restarting a closed one, and the run of vertices between two positions, as docs/TERMS.md has them. Definitions only.
 use mathlib.Core.Bool.{Bool, _&&_}
 use mathlib.Core.List.{List, [], _++_, reverse}
 use Prim.Native.Nat.{ℕ, _-_, _*_, _/_, _%_}

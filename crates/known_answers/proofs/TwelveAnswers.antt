@@ -1,4 +1,4 @@
--- Document 01's twelve known answers: the definitions give them, each computed. Assumes nothing.
+-- The twelve known answers of docs/TERMS.md: the definitions give them, each computed. Assumes nothing.
 use mathlib.Core.Path.{_≡_, refl}
 use mathlib.Core.Bool.{true, false}
 use mathlib.Core.List.{[], _∷_, _++_}

@@ -1,2 +1,2 @@
--- Document 01's twelve known answers, and what is claimed of them.
+-- The twelve known answers of docs/TERMS.md, and what is claimed of them.
 pub mod Twelve

@@ -1,4 +1,4 @@
--- Document 01's twelve known answers: what the definitions give, and what the document says, as two lists. X, Y and Z are the axis unit points, M is
+-- The twelve known answers of docs/TERMS.md: what the definitions give, and what that page says, as two lists. X, Y and Z are the axis unit points, M is
 -- (0.5, 0.5, 0). Strings carry the numbers 7, 8, 9. Definitions only. The proof is `twelve-known-answers` of `proofs/TwelveAnswers.antt`.
 use mathlib.Core.Path.{_≡_}
 use mathlib.Core.Bool.{Bool, true, false}

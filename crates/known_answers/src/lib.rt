@@ -1,1 +1,1 @@
-// No code: document 01's twelve known answers, as one list of the definitions' results.
+// No code: the twelve known answers of docs/TERMS.md, as one list of the definitions' results.

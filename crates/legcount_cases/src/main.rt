@@ -42,7 +42,7 @@ fn show_longest() {
     );
 }
 
-// Document 01's example.
+// The example of docs/TERMS.md.
 fn show_example() {
     show(
         b"string x y z\n\
@@ -80,7 +80,7 @@ fn show_malformed() {
     show(b"string x y z\nA 3FF0000000000000 0000000000000000  0000000000000000\n");
 }
 
-// Document 01's example, with the rows of A and B mixed; an infinity in B.
+// The example of docs/TERMS.md, with the rows of A and B mixed; an infinity in B.
 fn show_mixed() {
     show(
         b"string x y z\n\

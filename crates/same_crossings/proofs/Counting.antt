@@ -1,11 +1,11 @@
 -- The four counts add up to the number of visited pairs: legs times legs for two strings, half of (n - 2) * (n - 3) for a string of n vertices with itself.
--- The listing gives the counts of the counting call. And the clean points of a listing are the points of its clean pairs, in sequence, one for each. Stated
--- in `specs/CountLaws.antt`. Assumes nothing.
+-- The listing gives the counts of the counting call. The clean points of a listing are the points of its clean pairs, in sequence, one for each. And it
+-- keeps no more points than there are clean and grazing pairs. Stated in `specs/CountLaws.antt`. Assumes nothing.
 use mathlib.Core.Path.{_≡_, refl, sym, ap, ap₂, subst, _∙_}
 use mathlib.Core.Bool.{Bool, true, false}
 use mathlib.Core.List.{List, [], _∷_, map, map-id, filterMap}
 use mathlib.Core.Option.{none, some, Option·elim}
-use Prim.Native.Nat.{ℕ, zero, suc, _-_, _*_}
+use Prim.Native.Nat.{ℕ, zero, suc, _+_, _-_, _*_, _≤_}
 use native.Mathlib.Omega.{arith}
 use lib.ListN.{length, length-map}
 use lib.Dec.{eqb}
@@ -24,7 +24,7 @@ use Rattle.arcstring.specs.Leg.{Leg, legCheck, legs, legCount}
 use Rattle.arcstring_pair.specs.Pair.{pairOf}
 use Rattle.arcstring.proofs.Legs.{length-legs, length-open-legs}
 use Rattle.arcstring_tally.specs.declared.counts.Counts.{Counts}
-use Rattle.arcstring_tally.specs.Pairs.{pairsBetween, pairsWithin, oneClean, total, countsOf, Mark, keptMarks, cleanPoints}
+use Rattle.arcstring_tally.specs.Pairs.{pairsBetween, pairsWithin, oneClean, oneGrazing, total, countsOf, Mark, keptMarks, cleanPoints}
 use Rattle.arcstring_listing.specs.Listing.{Listing, listingOf, inRoom, visited, counted, crossings, legPairs, legCrossings}
 use Rattle.arcstring_self.specs.SelfListing.{normalizedListing, selfPairs, selfCrossings}
 use Rattle.arcstring_visit.proofs.Rows.{length-between, length-self}
@@ -45,7 +45,7 @@ unfolding legCount
 legs-length ps true = length-legs ps
 legs-length ps false = length-open-legs ps
 
-legs-in : (v : List Float) (closed : Bool) → length (legs (points v) closed) ≡ legsIn v closed
+pub legs-in : (v : List Float) (closed : Bool) → length (legs (points v) closed) ≡ legsIn v closed
 legs-in v closed = legs-length (points v) closed ∙ ap (λ (n : ℕ). legCount n closed) (count-points v)
 
 -- ---- a string with itself
@@ -75,6 +75,18 @@ clean-length (Apart ∷ ps) = omega (arith, clean-length ps)
 
 pub as-many-clean-points : (ps : List Pair) → length (cleanPoints (keptMarks ps)) ≡ total oneClean ps
 as-many-clean-points ps = ap length (clean-points-are-clean-pairs ps) ∙ clean-length ps
+
+-- ---- how many points are kept
+
+pub few-kept : (ps : List Pair) → length (keptMarks ps) ≤ total oneClean ps + total oneGrazing ps
+unfolding keptMarks filterMap total
+few-kept [] = omega arith
+few-kept (Clean p ∷ ps) = omega (arith, few-kept ps)
+few-kept (End p ∷ ps) = omega (arith, few-kept ps)
+few-kept (Grazing (Kept p) ∷ ps) = omega (arith, few-kept ps)
+few-kept (Grazing (Dropped p) ∷ ps) = omega (arith, few-kept ps)
+few-kept (Grazing None ∷ ps) = omega (arith, few-kept ps)
+few-kept (Apart ∷ ps) = omega (arith, few-kept ps)
 
 -- ---- what is answered where nothing refuses
 
@@ -150,9 +162,10 @@ listed-of ps =
       counts-of-pairs = refl;
       clean-of-pairs = clean-points-are-clean-pairs ps ∙ sym (map-id (filterMap pointOfClean ps));
       as-many = as-many-clean-points ps;
+      kept-at-most = few-kept ps;
     }
 
-abbrev normalizedMark : Mark → Mark
+abbrev pub normalizedMark : Mark → Mark
 normalizedMark m = record { point = normalizedUnlessShort (m .point); byte = m .byte }
 
 pub clean-normalized : (ms : List Mark) → cleanPoints (map normalizedMark ms) ≡ map normalizedUnlessShort (cleanPoints ms)
@@ -174,6 +187,7 @@ self-listed-of ps =
       counts-of-pairs = refl;
       clean-of-pairs = points-are ∙ ap (map normalizedUnlessShort) (clean-points-are-clean-pairs ps);
       as-many = ap length points-are ∙ length-map (cleanPoints (keptMarks ps)) normalizedUnlessShort ∙ as-many-clean-points ps;
+      kept-at-most = subst (λ (n : ℕ). n ≤ total oneClean ps + total oneGrazing ps) (sym (length-map (keptMarks ps) normalizedMark)) (few-kept ps);
     }
 
 pub listing-of-pairs : ListingOfPairs

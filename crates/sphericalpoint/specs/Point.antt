@@ -1,4 +1,4 @@
--- Points: normalising, and building one by itself, as document 01 and sphericalpoint.rs have them. Definitions only.
+-- Points: normalising, and building one by itself, as docs/TERMS.md and sphericalpoint.rs have them. Definitions only.
 use mathlib.Core.Bool.{Bool, true, false}
 use lib.IntN.{pos}
 use lib.Ieee.{Float, fin, binary64, sub, lt}

@@ -68,6 +68,6 @@ xyzLength a = sqrtOf (xyzSum (xyzMul a a))
 unfoldable pub normalized : SphericalPoint → SphericalPoint
 normalized a = xyzDiv a (xyzLength a)
 
--- document 01's `xyz_eq`: the sum of absolute differences is strictly below 3e-11
+-- equal points, `xyz_eq`: the sum of absolute differences is strictly below 3e-11
 unfoldable pub xyzEq : SphericalPoint → SphericalPoint → Bool
 xyzEq a b = lt (xyzSum (xyzAbs (xyzSub a b))) equalityTolerance

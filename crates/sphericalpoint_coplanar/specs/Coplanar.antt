@@ -1,4 +1,4 @@
--- The test of three points on one leg, as document 01 and sphericalpoint.rs have it. Definitions only.
+-- The test of three points on one leg, as docs/TERMS.md and sphericalpoint.rs have it. Definitions only.
 use mathlib.Core.Bool.{Bool, true, false, _&&_, _||_, cond}
 use lib.Ieee.{Float, binary64, add, div, neg, lt, le}
 use Rattle.ieee754.specs.Size.{abs}

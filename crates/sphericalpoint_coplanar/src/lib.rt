@@ -1,4 +1,4 @@
-// The test of three points of sphericalpoint.rs, with the source's name: whether a point lies on a leg. It takes any floats, infinities and
+// The test of three points of sphericalpoint.rs, with the source's name: whether the third lies between the others. It takes any floats, infinities and
 // NaN among them.
 //
 //     inner    the test in parts, and by coordinates: for the crates of this repository

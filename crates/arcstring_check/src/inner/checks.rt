@@ -1,4 +1,4 @@
-// The checks of document 01's table, in the order of its numbers, and document 02's 10, right after 1.
+// The checks of docs/TERMS.md's table of refusals, in the order of its numbers, with 10 right after 1.
 ghost use mathlib.Core.Path.{_≡_};
 ghost use Rattle.arcstring_check.specs.Answer.{firstOf};
 ghost use Rattle.arcstring_check.specs.Check.{checkNumber, inRange, allInRange, listCheck, storedCheck, stringCheck, buildingCheck, pointsCheck};
