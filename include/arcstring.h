@@ -224,9 +224,10 @@ uint32_t arcstring_crossings(const double *a, size_t a_len, uint8_t a_closed,
 uint32_t arcstring_count(const double *a, size_t a_len, uint8_t a_closed,
                          const double *b, size_t b_len, uint8_t b_closed, uint64_t counts[4]);
 
-/* The kept points of a string with itself: legs that are not neighbours, the closing leg of a closed string left out.
- * These are divided by their length, unless that is below 3e-11, as it is for two legs shorter than some 35 m: such a
- * point stays as it is, a zero vector too. Refuses by 1, 3, 4 and 7. */
+/* The kept points of a string with itself: legs that are not neighbours, the closing leg of a closed string left out,
+ * so that a restart, after which another leg is the closing one, changes what is visited. The points are divided by
+ * their length, unless that is below 3e-11, as it is for two legs shorter than some 35 m: such a point stays as it
+ * is, a zero vector too. Refuses by 1, 3, 4 and 7. */
 uint32_t arcstring_crossings_with_self(const double *v, size_t v_len,
                                        double *points, size_t points_len, uint8_t *marks, size_t marks_len,
                                        size_t *kept, uint64_t counts[4]);
@@ -234,8 +235,8 @@ uint32_t arcstring_crossings_with_self(const double *v, size_t v_len,
 /* Whether some pair of legs of a string keeps a point: legs that are not neighbours, the closing leg of a closed
  * string among them. As in the source, the closing leg is held against leg 0 too, though they meet at vertex 0: by
  * rounding, a closed string that does not cross itself may get a yes. Kept grazing points count, here and in the next
- * call, so that the answer may change when the string is walked backwards or restarted; the counts of clean pairs do
- * not. No below four vertices. Refuses by 1, 3 and 4. */
+ * call, so that the answer may change when the string is walked backwards, and it may when a closed one is restarted.
+ * No below four vertices. Refuses by 1, 3 and 4. */
 uint32_t arcstring_crosses_self(const double *v, size_t v_len, uint8_t closed, uint8_t *yes);
 
 /* Whether two points are on the same side of a string: the leg between them has an even number of kept points with
