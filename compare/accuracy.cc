@@ -21,6 +21,7 @@
 
 constexpr size_t N = 32;  // vertices of a string
 constexpr double TURN = 6.28318530717958647693, EARTH = 6371e3;
+constexpr double ERROR = 4e-16;  // times the square of the longest leg: a margin that covers the error of a side value
 
 using String = std::array<S2Point, N>;
 static_assert(sizeof(String) == 3 * N * sizeof(double), "S2's points are flat, as the library's are");
@@ -31,6 +32,7 @@ struct Row {
   size_t strings = 0, others = 0, missed = 0, invented = 0, grazing = 0;
   double margin = -1, error = 0;  // the least that covers all judged otherwise; the greatest error of a side value
   double off = 0;  // how far the nearest end is from the other leg's circle, at most, of all judged otherwise
+  size_t outside = 0, doubtful = 0, clean_left = 0;  // at the margin below: string pairs, string pairs, clean pairs
   std::vector<double> clean = {}, exact = {}, least = {};  // least side values: clean pairs, crossings, string pairs
 };
 
@@ -118,11 +120,27 @@ double judge(Row &row, const S2Point a[2], const S2Point b[2], bool crosses, uin
   return least;
 }
 
+// The margin for the longest legs that walks of a row can have.
+double margin_for(const Row &row) {
+  const double longest = 1.5 * row.length * row.factor;
+  return ERROR * longest * longest;
+}
+
+// Sets the counts at that margin against the exact number of crossings: it lies from clean to clean and grazing.
+void bracket(Row &row, const String &a, const String &b, uint64_t exact) {
+  uint64_t counts[4];
+  need(arcstring_count(a[0].Data(), 3 * N, 0, b[0].Data(), 3 * N, 0, margin_for(row), counts) == 0,
+       "arcstring_count refuses");
+  row.outside += exact < counts[0] || counts[0] + counts[2] < exact;
+  row.doubtful += counts[2] > 0;
+  row.clean_left += counts[0];
+}
+
 // Sets a pair of strings against the exact answer, all legs with all legs.
 void compare(Row &row, const String &a, const String &b) {
   uint64_t counts[4], sum[4] = {0, 0, 0, 0}, exact = 0;
   double least = INFINITY;
-  need(arcstring_count(a[0].Data(), 3 * N, 0, b[0].Data(), 3 * N, 0, counts) == 0, "arcstring_count refuses");
+  need(arcstring_count(a[0].Data(), 3 * N, 0, b[0].Data(), 3 * N, 0, 0.0, counts) == 0, "arcstring_count refuses");
   for (size_t i = 1; i < N; i++) {
     S2EdgeCrosser crosser(&a[i - 1], &a[i], &b[0]);
     for (size_t j = 1; j < N; j++) {
@@ -135,6 +153,7 @@ void compare(Row &row, const String &a, const String &b) {
   row.strings++;
   row.others += counts[0] != exact;
   row.least.push_back(least);
+  bracket(row, a, b, exact);
 }
 
 // Pairs of strings that go through the same patch, anywhere on the sphere.
@@ -171,7 +190,7 @@ double share(const std::vector<double> &values, double margin) {
   return 100.0 * std::count_if(values.begin(), values.end(), [=](double v) { return v <= margin; }) / values.size();
 }
 
-// Two tables: what was judged otherwise, and what a margin would do.
+// Three tables: what was judged otherwise, what a bound on side values would do, and what the margin does.
 void tables(const std::vector<Row> &rows) {
   std::puts("\n| leg, rad | on the Earth, m | the limit's legs | string pairs | leg pairs | exact crossings "
             "| string pairs counted otherwise | missed | invented | grazing | nearest end, at most, mm |\n"
@@ -190,6 +209,11 @@ void tables(const std::vector<Row> &rows) {
     else std::printf("| %.2g | %.3g | %.3g ", r.margin, share(r.exact, r.margin), share(r.least, r.margin));
     std::printf("| %.2g | %.3g | %.3g |\n", r.error, share(r.exact, r.error), share(r.least, r.error));
   }
+  std::puts("\n| leg, rad | the limit's legs | margin | string pairs whose crossings are not from clean to clean + grazing "
+            "| string pairs with grazing, % | clean pairs that graze, % |\n|--:|--:|--:|--:|--:|--:|");
+  for (const Row &r : rows)
+    std::printf("| %g | x %g | %.2g | %zu | %.3g | %.3g |\n", r.length, r.factor, margin_for(r), r.outside,
+                100.0 * r.doubtful / r.strings, 100.0 * (r.clean.size() - r.clean_left) / r.clean.size());
 }
 
 // A table of the pairs in which one leg starts on the other.

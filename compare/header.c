@@ -46,10 +46,11 @@ static void lend(void)
 static void words(void)
 {
     uint32_t i, k;
-    HOLDS(arcstring_version() == ARCSTRING_VERSION);
+    HOLDS(arcstring_version() == ARCSTRING_VERSION && ARCSTRING_VERSION == 3);
     for (i = 0; i <= ARCSTRING_BUOYS_NOT_AS_MANY; i++)
-        for (k = 0; k < i; k++) HOLDS(i == 9 || k == 9 || strcmp(arcstring_refusal_words(i), arcstring_refusal_words(k)) != 0);
-    HOLDS(strcmp(arcstring_refusal_words(9), arcstring_refusal_words(UINT32_MAX)) == 0);
+        for (k = 0; k < i; k++) HOLDS(strcmp(arcstring_refusal_words(i), arcstring_refusal_words(k)) != 0);
+    HOLDS(strcmp(arcstring_refusal_words(ARCSTRING_BUOYS_NOT_AS_MANY + 1), arcstring_refusal_words(UINT32_MAX)) == 0);
+    HOLDS(ARCSTRING_MARGIN_OUT_OF_RANGE == 9 && strstr(arcstring_refusal_words(9), "margin") != NULL);
 }
 
 static void single_points(void)
@@ -138,22 +139,22 @@ static void listings(void)
 {
     const double a[9] = {1, -0.5, 0.1, 1, 0.5, 0.1, 1, 0.5, -0.5}, b[9] = {1, 0.1, -0.5, 1, 0.1, 0.5, 1, -0.1, -0.5}, one[3] = {1, 0, 0};
     size_t i, room;
-    HOLDS(arcstring_count(a, 9, 0, b, 9, 0, counts) == 0 && counts[0] == 2 && counts[1] == 0 && counts[2] == 0 && counts[3] == 2);
-    HOLDS(arcstring_count(a, 9, 0, b, 9, 1, counts) == 0 && counts[0] == 2 && counts[2] == 1 && counts[3] == 3);
-    HOLDS(arcstring_count(a, 9, 1, b, 9, 0, counts) == 0 && counts[0] == 4 && counts[3] == 2);
-    HOLDS(arcstring_count(NULL, 0, 0, nan_point, 3, 0, counts) == ARCSTRING_NOT_TRIPLES);
-    HOLDS(arcstring_count(nan_point, 3, 0, NULL, 0, 0, counts) == ARCSTRING_OUT_OF_RANGE && counts[3] == 2);
-    HOLDS(arcstring_crossings(a, 9, 0, b, 9, 0, points, 6, marks, 2, &n, counts) == 0 && n == 2 && marks[0] == 1 && marks[1] == 1);
+    HOLDS(arcstring_count(a, 9, 0, b, 9, 0, 0.0, counts) == 0 && counts[0] == 2 && counts[1] == 0 && counts[2] == 0 && counts[3] == 2);
+    HOLDS(arcstring_count(a, 9, 0, b, 9, 1, 0.0, counts) == 0 && counts[0] == 2 && counts[2] == 1 && counts[3] == 3);
+    HOLDS(arcstring_count(a, 9, 1, b, 9, 0, 0.0, counts) == 0 && counts[0] == 4 && counts[3] == 2);
+    HOLDS(arcstring_count(NULL, 0, 0, nan_point, 3, 0, 0.0, counts) == ARCSTRING_NOT_TRIPLES);
+    HOLDS(arcstring_count(nan_point, 3, 0, NULL, 0, 0, 0.0, counts) == ARCSTRING_OUT_OF_RANGE && counts[3] == 2);
+    HOLDS(arcstring_crossings(a, 9, 0, b, 9, 0, 0.0, points, 6, marks, 2, &n, counts) == 0 && n == 2 && marks[0] == 1 && marks[1] == 1);
     HOLDS(points[1] > 0 && points[4] < points[1]); /* along the first string's one leg: the second string's first leg comes first */
-    HOLDS(arcstring_crossings(b, 9, 0, b, 9, 0, points, 12, marks, 4, &n, counts) == 0 && counts[2] == 4 && n <= counts[0] + counts[2]);
+    HOLDS(arcstring_crossings(b, 9, 0, b, 9, 0, 0.0, points, 12, marks, 4, &n, counts) == 0 && counts[2] == 4 && n <= counts[0] + counts[2]);
     room = (size_t)(counts[0] + counts[2]);
-    HOLDS(arcstring_crossings(b, 9, 0, b, 9, 0, points, 3 * room, marks, room, &i, counts) == 0 && i == n && n > 0);
-    HOLDS(arcstring_crossings(b, 9, 0, b, 9, 0, points, 3 * n, marks, n - 1, &i, counts) == ARCSTRING_NO_ROOM && i == n);
-    HOLDS(arcstring_crossings(b, 9, 0, b, 9, 0, points, 3 * n - 1, marks, n, &i, counts) == ARCSTRING_NO_ROOM && i == n);
-    HOLDS(arcstring_crossings(one, 3, 0, b, 9, 0, NULL, 0, NULL, 0, &n, counts) == 0 && n == 0 && counts[3] == 0);
-    HOLDS(arcstring_leg_crossings(cross_a, b, 9, 1, points, 9, marks, 3, &n, counts) == 0 && n == 2 && counts[0] == 2 && counts[3] == 1);
-    HOLDS(arcstring_leg_crossings(cross_a, b, 9, 0, points, 9, marks, 1, &n, counts) == ARCSTRING_NO_ROOM && n == 2);
-    HOLDS(arcstring_leg_crossings(cross_a, b, 9, 0, points, 5, marks, 2, &n, counts) == ARCSTRING_NO_ROOM && n == 2);
+    HOLDS(arcstring_crossings(b, 9, 0, b, 9, 0, 0.0, points, 3 * room, marks, room, &i, counts) == 0 && i == n && n > 0);
+    HOLDS(arcstring_crossings(b, 9, 0, b, 9, 0, 0.0, points, 3 * n, marks, n - 1, &i, counts) == ARCSTRING_NO_ROOM && i == n);
+    HOLDS(arcstring_crossings(b, 9, 0, b, 9, 0, 0.0, points, 3 * n - 1, marks, n, &i, counts) == ARCSTRING_NO_ROOM && i == n);
+    HOLDS(arcstring_crossings(one, 3, 0, b, 9, 0, 0.0, NULL, 0, NULL, 0, &n, counts) == 0 && n == 0 && counts[3] == 0);
+    HOLDS(arcstring_leg_crossings(cross_a, b, 9, 1, 0.0, points, 9, marks, 3, &n, counts) == 0 && n == 2 && counts[0] == 2 && counts[3] == 1);
+    HOLDS(arcstring_leg_crossings(cross_a, b, 9, 0, 0.0, points, 9, marks, 1, &n, counts) == ARCSTRING_NO_ROOM && n == 2);
+    HOLDS(arcstring_leg_crossings(cross_a, b, 9, 0, 0.0, points, 5, marks, 2, &n, counts) == ARCSTRING_NO_ROOM && n == 2);
 }
 
 /* a string that crosses itself once, and sides of a leg; the points of a string with itself are normalised */
@@ -161,16 +162,76 @@ static void with_itself(void)
 {
     const double eight[12] = {1, -0.5, 0, 1, 0.5, 0, 1, 0.2, -0.5, 1, 0.2, 0.5}, x2 = 1, y2 = 0.2;
     size_t room;
-    HOLDS(arcstring_count(eight, 12, 0, eight, 12, 0, counts) == 0);
+    HOLDS(arcstring_count(eight, 12, 0, eight, 12, 0, 0.0, counts) == 0);
     room = (size_t)(counts[0] + counts[2]);
-    HOLDS(arcstring_crossings_with_self(eight, 12, points, 3 * room, marks, room, &n, counts) == 0 && n == 1 && marks[0] == 1 && counts[0] == 1);
+    HOLDS(arcstring_crossings_with_self(eight, 12, 0.0, points, 3 * room, marks, room, &n, counts) == 0 && n == 1 && marks[0] == 1 && counts[0] == 1);
     HOLDS(counts[1] + counts[2] + counts[3] == 0 && fabs(points[0] - x2 / sqrt(x2 * x2 + y2 * y2)) < 1e-15 && points[2] == 0);
-    HOLDS(arcstring_crossings_with_self(eight, 12, points, 2, marks, 1, &n, counts) == ARCSTRING_NO_ROOM);
-    HOLDS(arcstring_crossings_with_self(eight, 12, points, 3, marks, 0, &n, counts) == ARCSTRING_NO_ROOM);
+    HOLDS(arcstring_crossings_with_self(eight, 12, 0.0, points, 2, marks, 1, &n, counts) == ARCSTRING_NO_ROOM);
+    HOLDS(arcstring_crossings_with_self(eight, 12, 0.0, points, 3, marks, 0, &n, counts) == ARCSTRING_NO_ROOM);
     HOLDS(arcstring_crosses_self(eight, 12, 0, &yes) == 0 && yes == 1);
     HOLDS(arcstring_crosses_self(xyz, 9, 1, &yes) == 0 && yes == 0);
     HOLDS(arcstring_same_side(1, 0.1, -0.4, 1, 0.1, 0.4, cross_a, 6, 0, &yes) == 0 && yes == 0);
     HOLDS(arcstring_same_side(1, 0.1, 0.2, 1, -0.4, 0.3, cross_a, 6, 0, &yes) == 0 && yes == 1);
+}
+
+/* what a call that takes a margin writes of nine pairs of legs; every byte is set before it, and there are none between */
+struct found { double points[27]; uint64_t counts[4]; size_t kept; uint8_t marks[16]; };
+
+/* the four of them, with room for so many points: a leg with clean, end and apart pairs, two strings with pairs of every class, one that
+ * crosses itself */
+static uint32_t at_margin(int call, double margin, size_t room, struct found *f)
+{
+    const double a[12] = {1, -1e-12, 0, 0, 1, 0, 1, 0.4, 0.5, 1, -0.3, -0.5}, b[12] = {1, 0, -1e-12, 0, 0, 1, 1, 0.1, 0.5, 1, 0.1, -0.5};
+    memset(f, 0xA5, sizeof *f);
+    switch (call) {
+    case 0: return arcstring_leg_crossings(cross_a, b, 12, 0, margin, f->points, 3 * room, f->marks, room, &f->kept, f->counts);
+    case 1: return arcstring_crossings(a, 12, 0, b, 12, 0, margin, f->points, 3 * room, f->marks, room, &f->kept, f->counts);
+    case 2: return arcstring_crossings_with_self(a, 12, margin, f->points, 3 * room, f->marks, room, &f->kept, f->counts);
+    default: return arcstring_count(a, 12, 0, b, 12, 0, margin, f->counts);
+    }
+}
+
+/* -0 is as 0; a margin wider than every side value leaves the points, and all pairs graze; a refused one leaves every place */
+static void at_margins(int call)
+{
+    const double refused[5] = {-5e-324, -1e300, NAN, INFINITY, -INFINITY};
+    const size_t most = 9;
+    struct found before, f, wide;
+    uint64_t all, i;
+    memset(&before, 0xA5, sizeof before);
+    HOLDS(at_margin(call, 0.0, most, &f) == 0 && at_margin(call, -0.0, most, &wide) == 0 && SAME(&f, &wide, 1));
+    HOLDS(at_margin(call, 1e300, most, &wide) == 0 && wide.kept == f.kept && SAME(f.points, wide.points, LENGTH(f.points)));
+    all = f.counts[0] + f.counts[1] + f.counts[2] + f.counts[3];
+    HOLDS(all > f.counts[2] && wide.counts[0] == 0 && wide.counts[1] == 0 && wide.counts[2] == all && wide.counts[3] == 0);
+    for (i = 0; i < f.kept && i < most; i++) HOLDS(wide.marks[i] == (call == 3 ? before.marks[i] : 0));
+    HOLDS(call == 3 || (f.kept > 0 && f.kept < most && wide.marks[f.kept] == before.marks[f.kept]));
+    for (i = 0; i < LENGTH(refused); i++) {
+        HOLDS(at_margin(call, refused[i], most, &f) == ARCSTRING_MARGIN_OUT_OF_RANGE && SAME(&f, &before, 1));
+        HOLDS(at_margin(call, refused[i], 0, &f) == ARCSTRING_MARGIN_OUT_OF_RANGE && SAME(&f, &before, 1)); /* before 7 */
+    }
+    HOLDS(call == 3 || (at_margin(call, 1e300, 0, &f) == ARCSTRING_NO_ROOM && SAME(&f, &before, 1)));
+}
+
+/* a margin that is a side value's size makes the pair graze, the float below it does not; a list's refusals come before the margin's */
+static void margins(void)
+{
+    const double below = nextafter(0.5, 0.0), nan_leg[6] = {0, 1, 0, 0, NAN, 0};
+    int call;
+    for (call = 0; call < 4; call++) at_margins(call);
+    HOLDS(arcstring_count(cross_a, 6, 0, cross_b, 6, 0, below, counts) == 0 && counts[0] == 1); /* its four side values are 0.5 */
+    HOLDS(arcstring_count(cross_a, 6, 0, cross_b, 6, 0, 0.5, counts) == 0 && counts[0] == 0 && counts[2] == 1);
+    HOLDS(arcstring_leg_crossings(cross_a, cross_b, 6, 0, below, points, 3, marks, 1, &n, counts) == 0 && n == 1 && marks[0] == 1);
+    HOLDS(arcstring_leg_crossings(cross_a, cross_b, 6, 0, 0.5, points, 3, marks, 1, &n, counts) == 0 && n == 1 && marks[0] == 0 && points[0] == 1);
+    HOLDS(arcstring_leg_crossings(nan_leg, xyz, 8, 0, NAN, NULL, 0, NULL, 0, &n, counts) == ARCSTRING_OUT_OF_RANGE);
+    HOLDS(arcstring_leg_crossings(cross_a, xyz, 8, 0, NAN, NULL, 0, NULL, 0, &n, counts) == ARCSTRING_NOT_TRIPLES);
+    HOLDS(arcstring_leg_crossings(cross_a, nan_point, 3, 0, -1, NULL, 0, NULL, 0, &n, counts) == ARCSTRING_OUT_OF_RANGE);
+    HOLDS(arcstring_crossings(nan_point, 3, 0, xyz, 8, 0, NAN, NULL, 0, NULL, 0, &n, counts) == ARCSTRING_OUT_OF_RANGE);
+    HOLDS(arcstring_crossings(xyz, 9, 0, xyz, 8, 0, NAN, NULL, 0, NULL, 0, &n, counts) == ARCSTRING_NOT_TRIPLES);
+    HOLDS(arcstring_crossings(xyz, 9, 0, nan_point, 3, 0, -1, NULL, 0, NULL, 0, &n, counts) == ARCSTRING_OUT_OF_RANGE);
+    HOLDS(arcstring_count(nan_point, 3, 0, xyz, 8, 0, NAN, counts) == ARCSTRING_OUT_OF_RANGE);
+    HOLDS(arcstring_count(xyz, 9, 0, nan_point, 3, 0, -1, counts) == ARCSTRING_OUT_OF_RANGE);
+    HOLDS(arcstring_crossings_with_self(xyz, 8, NAN, NULL, 0, NULL, 0, &n, counts) == ARCSTRING_NOT_TRIPLES);
+    HOLDS(arcstring_crossings_with_self(nan_point, 3, -1, NULL, 0, NULL, 0, &n, counts) == ARCSTRING_OUT_OF_RANGE && n == 1);
 }
 
 typedef uint32_t comparison(const double *, size_t, const double *, size_t, uint8_t, const double *, size_t, const double *, size_t, uint8_t,
@@ -266,7 +327,7 @@ static void changes(void)
 int main(void)
 {
     lend();
-    words(), single_points(), building(), walks(), pairs(), listings(), with_itself(), near_lists(), measures(), simplified(), changes();
+    words(), single_points(), building(), walks(), pairs(), listings(), with_itself(), margins(), near_lists(), measures(), simplified(), changes();
     free(out), free(points), free(numbers), free(counts_of), free(marks), free(flags);
     printf("%d facts of the header, %d broken\n", facts, broken);
     return broken != 0;

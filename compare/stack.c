@@ -19,6 +19,7 @@ static uint8_t marks[MOST * MOST], flags[MOST], flag, other;
 static size_t n, kept, lengths[MOST], length;
 static uint64_t counts[4];
 static uint32_t refusal;
+static const double margins[2] = {0.0, 1e-9}; /* of the calls that take one */
 
 static void none(void) { refusal = 0; }
 static void xyz_eq(void) { refusal = arcstring_xyz_eq(a[0], a[1], a[2], b[0], b[1], b[2], &flag); }
@@ -30,21 +31,34 @@ static void build_flagged(void) { refusal = arcstring_build_flagged(a, 3 * n, bu
 static void walk_back(void) { refusal = arcstring_walk_back(a, 3 * n, buoys, n, out, 3 * MOST, out_buoys, MOST, &length); }
 static void restart(void) { refusal = arcstring_restart(a, 3 * n, buoys, n, 1, 2, out, 3 * MOST, out_buoys, MOST, &length); }
 static void run(void) { arcstring_run(a, 3 * n, 1, n - 1, &kept, &length), refusal = 0; }
-static void count(void) { refusal = arcstring_count(a, 3 * n, 1, b, 3 * n, 1, counts); }
+static void count(void)
+{
+    int k;
+    for (k = 0, refusal = 0; k < 2; k++) refusal |= arcstring_count(a, 3 * n, 1, b, 3 * n, 1, margins[k], counts);
+}
 static void listing(void)
 {
-    refusal = arcstring_crossings(a, 3 * n, 1, b, 3 * n, 1, points, 3 * n * n, marks, n * n, &kept, counts);
-    refusal |= arcstring_crossings(a, 3 * n, 1, b, 3 * n, 1, points, 3 * kept, marks, kept, &kept, counts);
+    int k;
+    for (k = 0, refusal = 0; k < 2; k++) {
+        refusal |= arcstring_crossings(a, 3 * n, 1, b, 3 * n, 1, margins[k], points, 3 * n * n, marks, n * n, &kept, counts);
+        refusal |= arcstring_crossings(a, 3 * n, 1, b, 3 * n, 1, margins[k], points, 3 * kept, marks, kept, &kept, counts);
+    }
 }
 static void leg_listing(void)
 {
-    refusal = arcstring_leg_crossings(a, b, 3 * n, 1, points, 3 * n, marks, n, &kept, counts);
-    refusal |= arcstring_leg_crossings(a, b, 3 * n, 1, points, 3 * kept, marks, kept, &kept, counts);
+    int k;
+    for (k = 0, refusal = 0; k < 2; k++) {
+        refusal |= arcstring_leg_crossings(a, b, 3 * n, 1, margins[k], points, 3 * n, marks, n, &kept, counts);
+        refusal |= arcstring_leg_crossings(a, b, 3 * n, 1, margins[k], points, 3 * kept, marks, kept, &kept, counts);
+    }
 }
 static void self_listing(void)
 {
-    refusal = arcstring_crossings_with_self(a, 3 * n, points, 3 * n * n, marks, n * n, &kept, counts);
-    refusal |= arcstring_crossings_with_self(a, 3 * n, points, 3 * kept, marks, kept, &kept, counts);
+    int k;
+    for (k = 0, refusal = 0; k < 2; k++) {
+        refusal |= arcstring_crossings_with_self(a, 3 * n, margins[k], points, 3 * n * n, marks, n * n, &kept, counts);
+        refusal |= arcstring_crossings_with_self(a, 3 * n, margins[k], points, 3 * kept, marks, kept, &kept, counts);
+    }
 }
 static void crosses_self(void) { refusal = arcstring_crosses_self(a, 3 * n, 1, &flag); }
 static void same_side(void) { refusal = arcstring_same_side(a[0], a[1], a[2], a[3], a[4], a[5], b, 3 * n, 1, &flag); }

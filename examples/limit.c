@@ -14,6 +14,9 @@
 #define DEGREE (3.14159265358979323846 / 180.0)
 #define LENGTH(list) (sizeof(list) / sizeof((list)[0]))
 
+/* what the notice of race gives as the margin of a grazing pair; 0 where it gives none */
+#define MARGIN 0.0
+
 /* a longitude and a latitude, in degrees, and the number of a buoy there, or 0 for none */
 struct place { double lon, lat; uint32_t buoy; };
 
@@ -75,10 +78,10 @@ static void list(const struct string *a, const struct string *b)
     size_t most, kept, i;
     double *points;
     uint8_t *marks;
-    expect(arcstring_count(a->v, 3 * a->count, a->closed, b->v, 3 * b->count, b->closed, counts));
+    expect(arcstring_count(a->v, 3 * a->count, a->closed, b->v, 3 * b->count, b->closed, MARGIN, counts));
     most = (size_t)(counts[ARCSTRING_CLEAN - 1] + counts[ARCSTRING_GRAZING - 1]);
     points = room(most, 3 * sizeof(double)), marks = room(most, 1);
-    expect(arcstring_crossings(a->v, 3 * a->count, a->closed, b->v, 3 * b->count, b->closed,
+    expect(arcstring_crossings(a->v, 3 * a->count, a->closed, b->v, 3 * b->count, b->closed, MARGIN,
                                points, 3 * most, marks, most, &kept, counts));
     printf("clean %" PRIu64 ", end %" PRIu64 ", grazing %" PRIu64 ", apart %" PRIu64 "\n",
            counts[0], counts[1], counts[2], counts[3]);

@@ -65,18 +65,18 @@ static void print(const char *mark, const double p[3])
         printf("%s %.6f %.6f\n", mark, atan2(y, x) / DEGREE, atan2(z, hypot(x, y)) / DEGREE);
 }
 
-/* counted first, for buffers of the right length: no pairs but the clean and the grazing ones keep a point */
+/* at margin 0; counted first, for buffers of the right length: only clean and grazing pairs keep a point */
 static uint32_t list(const struct string *a, const struct string *b)
 {
     uint64_t counts[4];
-    uint32_t refusal = arcstring_count(a->v, 3 * a->v_count, a->closed, b->v, 3 * b->v_count, b->closed, counts);
+    uint32_t refusal = arcstring_count(a->v, 3 * a->v_count, a->closed, b->v, 3 * b->v_count, b->closed, 0.0, counts);
     size_t most = refusal ? 0 : (size_t)(counts[ARCSTRING_CLEAN - 1] + counts[ARCSTRING_GRAZING - 1]), kept = 0;
     double *points = malloc((3 * most + 1) * sizeof *points);
     uint8_t *marks = malloc(most + 1);
     if (points == NULL || marks == NULL)
         exit(failed());
     if (refusal == 0)
-        refusal = arcstring_crossings(a->v, 3 * a->v_count, a->closed, b->v, 3 * b->v_count, b->closed,
+        refusal = arcstring_crossings(a->v, 3 * a->v_count, a->closed, b->v, 3 * b->v_count, b->closed, 0.0,
                                       points, 3 * most, marks, most, &kept, counts);
     for (size_t i = 0; i < kept; i++)
         print(marks[i] ? "clean" : "grazing", points + 3 * i);

@@ -23,8 +23,9 @@
  * words; docs/TERMS.md says what to do about each.
  *
  * The checks run in the order of the numbers within a list, with 10 right after 1. A string's vertices come before
- * its near list, the first string before the second, then points to insert or to split at; then the 3 of a result, 5
- * and 6; 7 comes last, and looks at the numbers' buffer too. Past an answer a buffer keeps what it held.
+ * its near list, the first string before the second, then points to insert or to split at; then 9 of a margin; then
+ * the 3 of a result, 5 and 6; 7 comes last, and looks at the numbers' buffer too. Past an answer a buffer keeps what it
+ * held.
  *
  * HOW MUCH TO LEND, so that a call never refuses by 7. A point is three doubles; n is how many vertices are handed
  * in, and MOST stands for ARCSTRING_MOST_POINTS.
@@ -39,10 +40,12 @@
  *     arcstring_split                              MOST points, numbers, counts and flags
  *     arcstring_leg_crossings                      n points and marks
  *     arcstring_crossings                          counts[0] + counts[2] points and marks, by arcstring_count
- *     arcstring_crossings_with_self                the same, by arcstring_count(v, v_len, 0, v, v_len, 0, counts)
+ *     arcstring_crossings_with_self                the same, by arcstring_count(v, v_len, 0, v, v_len, 0, 0.0, counts)
  *
- * The last three are theorems: a listing keeps at most one point for each clean and each grazing pair. Where the
- * buffers hold a point of every pair, a listing goes over the pairs once; else it counts them first and then writes.
+ * The last three are theorems: a listing keeps at most one point for each clean and each grazing pair, and the same
+ * points at every margin, so that the counts at one margin tell enough for all; those at 0 ask for the least. Where
+ * the buffers hold a point of every pair, a listing goes over the pairs once; else it counts them first and then
+ * writes.
  *
  * WHAT A CALLER SEES TO. The library cannot check these; with one of them broken it promises nothing.
  *
@@ -83,8 +86,9 @@
 #include <stddef.h>
 #include <stdint.h>
 
-/* Raised where a prototype changes. 2: the calls that write a string take and write the numbers of buoys. */
-#define ARCSTRING_VERSION 2
+/* Raised where a prototype changes. 2: the calls that write a string take and write the numbers of buoys. 3: the three
+ * listings and the count take a margin. */
+#define ARCSTRING_VERSION 3
 
 /* The most points that a list may have, and the result of an insertion or a cut, all pieces together. */
 #define ARCSTRING_MOST_POINTS 1024
@@ -96,15 +100,16 @@ extern "C" {
 /* Why a call says no. */
 enum arcstring_refusal {
     ARCSTRING_NOT_REFUSED = 0,
-    ARCSTRING_NOT_TRIPLES = 1,       /* a list is not whole triples, or a string or a near list has no point */
-    ARCSTRING_TOO_FEW_POINTS = 2,    /* fewer than two points to build from; midpoints of an open string of one */
-    ARCSTRING_TOO_MANY_POINTS = 3,   /* a list has over 1,024 points, or a result after an insertion or a cut */
-    ARCSTRING_OUT_OF_RANGE = 4,      /* a coordinate is NaN, infinite, or outside -1 to 1 */
-    ARCSTRING_REMOVES_PAST_END = 5,  /* simplifying a closed string removes past its end: the Rust panics there */
-    ARCSTRING_READS_PAST_END = 6,    /* arcstring_overlaps, last leg of a closed first string: the Rust panics there */
-    ARCSTRING_NO_ROOM = 7,           /* the answer is longer than a buffer lent for it */
-    ARCSTRING_MALFORMED = 8,         /* of the programs alone: their input is malformed */
-    ARCSTRING_BUOYS_NOT_AS_MANY = 10 /* a list of numbers is not as long as its list of vertices or of points */
+    ARCSTRING_NOT_TRIPLES = 1,         /* a list is not whole triples, or a string or a near list has no point */
+    ARCSTRING_TOO_FEW_POINTS = 2,      /* fewer than two points to build from; midpoints of an open string of one */
+    ARCSTRING_TOO_MANY_POINTS = 3,     /* a list has over 1,024 points, or a result after an insertion or a cut */
+    ARCSTRING_OUT_OF_RANGE = 4,        /* a coordinate is NaN, infinite, or outside -1 to 1 */
+    ARCSTRING_REMOVES_PAST_END = 5,    /* simplifying a closed string removes past its end: the Rust panics there */
+    ARCSTRING_READS_PAST_END = 6,      /* arcstring_overlaps at a closed first string's last leg: the Rust panics */
+    ARCSTRING_NO_ROOM = 7,             /* the answer is longer than a buffer lent for it */
+    ARCSTRING_MALFORMED = 8,           /* of the programs alone: their input is malformed */
+    ARCSTRING_MARGIN_OUT_OF_RANGE = 9, /* a margin is below 0, NaN or infinite */
+    ARCSTRING_BUOYS_NOT_AS_MANY = 10   /* a list of numbers is not as long as its list of vertices or of points */
 };
 
 /* The class of a pair of legs. counts[c - 1] is how many pairs have class c. */
@@ -128,6 +133,7 @@ static inline const char *arcstring_refusal_words(uint32_t refusal)
     case ARCSTRING_READS_PAST_END: return "an overlap comes to the last leg of a closed first string";
     case ARCSTRING_NO_ROOM: return "the answer is longer than a buffer lent for it";
     case ARCSTRING_MALFORMED: return "the input is malformed";
+    case ARCSTRING_MARGIN_OUT_OF_RANGE: return "a margin is not a finite number from 0 on";
     case ARCSTRING_BUOYS_NOT_AS_MANY: return "a list of buoys is not as long as its list of points";
     default: return "no refusal of this version";
     }
@@ -190,12 +196,27 @@ uint32_t arcstring_restart(const double *v, size_t v_len, const uint32_t *buoys,
  * that is not whole triples. The coordinates are not looked at. Never refuses. */
 void arcstring_run(const double *v, size_t v_len, size_t from, size_t to, size_t *start, size_t *len);
 
-/* ---- Crossings. */
+/* ---- Crossings.
+ *
+ * The three listings and the count take a margin, which the notice of race gives, 0.0 where it gives none: a pair of
+ * legs is grazing where at least one of its four side values (docs/TERMS.md) is no larger in size than the margin.
+ * With 0.0, and with -0.0, that is where one is zero. The margin changes marks and counts, and never which points are
+ * kept: a kept point whose pair grazes has mark 0. A wider margin makes pairs grazing, and does nothing else to them.
+ * It is refused by 9 if it is below 0, NaN or infinite, after the strings' checks and before 7.
+ *
+ * A margin is a distance only for given legs: of unit vectors, as built strings have them, a side value is in size
+ * sin(d) * sin(d) * sin(l) * sin(h), where h is how far an end of a leg is from the other leg's great circle, d the
+ * length of its own leg and l that of the other. docs/ACCURACY.md says how to choose one. And since it is the great
+ * circle that counts, counts[2] has pairs that cross near an end, pairs that miss narrowly, and pairs of legs that are
+ * far from each other. Only of the first, and by the signs of zeros, is a point kept, marked 0.
+ *
+ * No other call takes a margin: all go by 0. The class of a single pair at a margin is told by arcstring_leg_crossings
+ * with a string of two vertices. */
 
-/* The class of a pair of legs, as enum arcstring_class has it. `kept` is 1 where the listings below keep its point,
- * else 0. A clean and an end pair have a point, an apart pair has none, a grazing pair may have one, by the signs of
- * its zeros. It is written here even where it equals an end of a leg; the listings do not keep it then. Where there
- * is none, `point` keeps what it held. Refuses by 4.
+/* The class of a pair of legs at margin 0, as enum arcstring_class has it. `kept` is 1 where the listings below keep
+ * its point, which they do at every margin, else 0. A clean and an end pair have a point, an apart pair has none, a
+ * grazing pair may have one, by the signs of its zeros. It is written here even where it equals an end of a leg; the
+ * listings do not keep it then. Where there is none, `point` keeps what it held. Refuses by 4.
  *
  * A point is not normalised: divide it by its length to have it on the sphere. That of a grazing pair may be the zero
  * vector, for instance where both legs are on one great circle, and whether a grazing pair has a point, and which,
@@ -207,28 +228,28 @@ uint32_t arcstring_pair(const double a[6], const double b[6], uint8_t *class_, u
 
 /* The kept points of one leg with every leg of a string, a mark for each (1 clean, 0 grazing), and how many pairs are
  * clean, end, grazing and apart. The points are as arcstring_pair has them, not normalised. Refuses by 4 of the leg,
- * by 1, 3 and 4 of the string, and by 7. */
-uint32_t arcstring_leg_crossings(const double leg[6], const double *v, size_t v_len, uint8_t closed,
+ * by 1, 3 and 4 of the string, by 9 and by 7. */
+uint32_t arcstring_leg_crossings(const double leg[6], const double *v, size_t v_len, uint8_t closed, double margin,
                                  double *points, size_t points_len, uint8_t *marks, size_t marks_len,
                                  size_t *kept, uint64_t counts[4]);
 
-/* The same of every leg of one string with every leg of another, leg by leg of the first: so the clean points stand
- * in another sequence when the strings have traded places or changed. Refuses by 1, 3, 4 and 7. */
+/* The same of every leg of one string with every leg of another, leg by leg of the first: so the clean points may
+ * stand in another sequence when the strings have traded places or changed. Refuses by 1, 3, 4, 9 and 7. */
 uint32_t arcstring_crossings(const double *a, size_t a_len, uint8_t a_closed,
-                             const double *b, size_t b_len, uint8_t b_closed,
+                             const double *b, size_t b_len, uint8_t b_closed, double margin,
                              double *points, size_t points_len, uint8_t *marks, size_t marks_len,
                              size_t *kept, uint64_t counts[4]);
 
-/* The counts alone: clean, end, grazing, apart. They stay the same when the strings trade places, one is walked
- * backwards or a closed one is restarted. Refuses by 1, 3 and 4. */
+/* The counts alone: clean, end, grazing, apart. At one margin they stay the same when the strings trade places, one is
+ * walked backwards or a closed one is restarted. Refuses by 1, 3, 4 and 9. */
 uint32_t arcstring_count(const double *a, size_t a_len, uint8_t a_closed,
-                         const double *b, size_t b_len, uint8_t b_closed, uint64_t counts[4]);
+                         const double *b, size_t b_len, uint8_t b_closed, double margin, uint64_t counts[4]);
 
 /* The kept points of a string with itself: legs that are not neighbours, the closing leg of a closed string left out,
  * so that a restart, after which another leg is the closing one, changes what is visited. The points are divided by
  * their length, unless that is below 3e-11, as it is for two legs shorter than some 35 m: such a point stays as it
- * is, a zero vector too. Refuses by 1, 3, 4 and 7. */
-uint32_t arcstring_crossings_with_self(const double *v, size_t v_len,
+ * is, a zero vector too. Refuses by 1, 3, 4, 9 and 7. */
+uint32_t arcstring_crossings_with_self(const double *v, size_t v_len, double margin,
                                        double *points, size_t points_len, uint8_t *marks, size_t marks_len,
                                        size_t *kept, uint64_t counts[4]);
 

@@ -1,16 +1,19 @@
 //! What an answer holds, and the answers of verdicts, of vertices and of a string.
+use crate::classes::Grazed;
 use crate::lists::flat;
 use crate::numbered::{self, Vertex};
 use crate::random::Xyz;
 use crate::request::{Call, Places};
 
-/// A finished answer, before any look at the room for it: the single numbers before those of a buffer.
+/// A finished answer, before any look at the room for it: the single numbers before those of a buffer. What the margin did to the pairs
+/// of legs is for the summary, and no part of what is compared.
 #[derive(Default)]
 pub struct Answer {
     pub floats: Vec<f64>,
     pub buoys: Vec<u32>,
     pub bytes: Vec<u8>,
     pub numbers: Vec<u64>,
+    pub grazed: Grazed,
 }
 
 impl Answer {

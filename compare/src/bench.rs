@@ -1,5 +1,5 @@
 //! Times calls of arcstring_c beside the published Rust: same inputs, one run, by turns, medians.
-use crate::bench_inputs::{LEGS, Room, SIZES, Times, Two, spiral, string};
+use crate::bench_inputs::{LEGS, MARGINS, Room, SIZES, Times, Two, spiral, string};
 use crate::bench_strings as strings;
 use crate::calls::c;
 use crate::lists::{flat, triples};
@@ -20,21 +20,37 @@ fn published_listing(s: &ArcString, t: &ArcString) {
     }
 }
 
-/// one line of the table of pairs: the counting call and the listing, in both kinds of room, beside the published listing
+/// one line of the table of pairs: the counting call and the listing, in both kinds of room, at both margins, beside the published listing
 fn two_strings(kind: &str, n: usize, step: f64) {
-    let two = Two::new(n, step);
+    let (two, [none, margin]) = (Two::new(n, step), MARGINS);
     let (s, t, pairs) = (stored(&two.a, &two.a, false), stored(&two.b, &two.b, false), two.pairs());
-    let mut all = Room::of(pairs);
-    let kept = two.list(&mut all);
-    let mut exact = Room::of(kept);
-    let [published, count, in_all, in_exact] = by_turns(two.inner(), [
+    let kept = two.list(none, &mut Room::of(pairs));
+    let [mut all, mut also_all, mut exact, mut also_exact] = [pairs, pairs, kept, kept].map(Room::of);
+    let [published, ours @ ..] = by_turns(two.inner(), [
         &mut || published_listing(&s, &t),
-        &mut || _ = black_box(two.count()),
-        &mut || _ = black_box(two.list(&mut all)),
-        &mut || _ = black_box(two.list(&mut exact)),
+        &mut || _ = black_box(two.count(none)),
+        &mut || _ = black_box(two.count(margin)),
+        &mut || _ = black_box(two.list(none, &mut all)),
+        &mut || _ = black_box(two.list(margin, &mut also_all)),
+        &mut || _ = black_box(two.list(none, &mut exact)),
+        &mut || _ = black_box(two.list(margin, &mut also_exact)),
     ]);
-    let ratio = |ours: f64| ours / published;
-    println!("| {kind} | {n} | {kept} of {pairs} | {:.1} | {:.2} | {:.2} | {:.2} |", published / pairs as f64, ratio(count), ratio(in_all), ratio(in_exact));
+    let ratios = ours.map(|ours| format!("{:.2}", ours / published)).join(" | ");
+    println!("| {kind} | {n} | {kept} of {pairs} | {:.1} | {ratios} |", published / pairs as f64);
+}
+
+/// one line of the table of legs so short that most pairs graze at the margin: the counting call and the listing at both margins
+fn grazing(n: usize) {
+    let (two, [none, margin]) = (Two::in_one_patch(n, 0.001), MARGINS);
+    let (pairs, [mut room, mut also]) = (two.pairs(), [0, 1].map(|_| Room::of(two.pairs())));
+    let times = by_turns(two.inner(), [
+        &mut || _ = black_box(two.count(none)),
+        &mut || _ = black_box(two.count(margin)),
+        &mut || _ = black_box(two.list(none, &mut room)),
+        &mut || _ = black_box(two.list(margin, &mut also)),
+    ]);
+    let times = times.map(|time| format!("{:.1}", time / pairs as f64)).join(" | ");
+    println!("| {n} | {} of {pairs} | {times} |", two.count(margin)[2]);
 }
 
 /// one line of the table of further listings: ours, in both kinds of room, beside the published one
@@ -53,7 +69,7 @@ fn with_self(kind: &str, n: usize, step: f64) {
     let mut published = || _ = black_box(black_box(&s).crossings_with_self());
     listing(&format!("a string with itself | {kind} | {n}"), (n - 2) * (n - 3) / 2, &mut published, |room| {
         let v = black_box(&v);
-        room.kept_by(|p, p_len, m, m_len, kept, counts| unsafe { c::arcstring_crossings_with_self(v.as_ptr(), v.len(), p, p_len, m, m_len, kept, counts) })
+        room.kept_by(|p, p_len, m, m_len, kept, counts| unsafe { c::arcstring_crossings_with_self(v.as_ptr(), v.len(), 0.0, p, p_len, m, m_len, kept, counts) })
     });
 }
 
@@ -69,7 +85,7 @@ fn one_leg(kind: &str, n: usize, step: f64) {
     let mut published = || _ = black_box(arc_crossings_with_arcstring((&ends[0], &ends[1]), black_box(&t)));
     listing(&format!("one leg with a string | {kind} | {n}"), n - 1, &mut published, |room| {
         let v = black_box(&v);
-        room.kept_by(|p, p_len, m, m_len, kept, counts| unsafe { c::arcstring_leg_crossings(leg.as_ptr(), v.as_ptr(), v.len(), 0, p, p_len, m, m_len, kept, counts) })
+        room.kept_by(|p, p_len, m, m_len, kept, counts| unsafe { c::arcstring_leg_crossings(leg.as_ptr(), v.as_ptr(), v.len(), 0, 0.0, p, p_len, m, m_len, kept, counts) })
     });
 }
 
@@ -164,9 +180,16 @@ fn table(calls: &[Call]) {
 }
 
 pub fn run() {
-    println!("| legs | vertices | points kept of pairs | published listing, ns a pair | count: ratio | listing, room for all pairs: ratio | listing, room for the kept: ratio |");
-    println!("|---|---|---|---|---|---|---|");
+    println!(
+        "| legs | vertices | points kept of pairs | published listing, ns a pair | count, margin 0: ratio | margin 1e-9 \
+         | listing, room for all pairs, margin 0: ratio | margin 1e-9 | listing, room for the kept, margin 0: ratio | margin 1e-9 |"
+    );
+    println!("|---|---|---|---|---|---|---|---|---|---|");
     of_legs(&SIZES, two_strings);
+    println!("\nLegs of about 0.001 rad, both strings in one patch:\n");
+    println!("| vertices | pairs that graze at margin 1e-9 | count, margin 0: ns a pair | margin 1e-9 | listing, room for all pairs, margin 0: ns a pair | margin 1e-9 |");
+    println!("|---|---|---|---|---|---|");
+    [256, 1024].into_iter().for_each(grazing);
     println!("\n| listing | legs | vertices | points kept of pairs | published, ns a pair | room for all pairs: ratio | room for the kept: ratio |");
     println!("|---|---|---|---|---|---|---|");
     of_legs(&SIZES, with_self);

@@ -38,10 +38,10 @@ pub mod c {
         ) -> u32;
         pub fn arcstring_run(v: List, n: usize, from: usize, to: usize, start: *mut usize, len: *mut usize);
         pub fn arcstring_pair(a: List, b: List, class: *mut u8, kept: *mut u8, point: *mut f64) -> u32;
-        pub fn arcstring_leg_crossings(leg: List, v: List, n: usize, closed: u8, points: *mut f64, room: usize, marks: *mut u8, marks_room: usize, kept: *mut usize, counts: *mut u64) -> u32;
-        pub fn arcstring_crossings(a: List, an: usize, ac: u8, b: List, bn: usize, bc: u8, points: *mut f64, room: usize, marks: *mut u8, marks_room: usize, kept: *mut usize, counts: *mut u64) -> u32;
-        pub fn arcstring_count(a: List, an: usize, ac: u8, b: List, bn: usize, bc: u8, counts: *mut u64) -> u32;
-        pub fn arcstring_crossings_with_self(v: List, n: usize, points: *mut f64, room: usize, marks: *mut u8, marks_room: usize, kept: *mut usize, counts: *mut u64) -> u32;
+        pub fn arcstring_leg_crossings(leg: List, v: List, n: usize, closed: u8, margin: f64, points: *mut f64, room: usize, marks: *mut u8, marks_room: usize, kept: *mut usize, counts: *mut u64) -> u32;
+        pub fn arcstring_crossings(a: List, an: usize, ac: u8, b: List, bn: usize, bc: u8, margin: f64, points: *mut f64, room: usize, marks: *mut u8, marks_room: usize, kept: *mut usize, counts: *mut u64) -> u32;
+        pub fn arcstring_count(a: List, an: usize, ac: u8, b: List, bn: usize, bc: u8, margin: f64, counts: *mut u64) -> u32;
+        pub fn arcstring_crossings_with_self(v: List, n: usize, margin: f64, points: *mut f64, room: usize, marks: *mut u8, marks_room: usize, kept: *mut usize, counts: *mut u64) -> u32;
         pub fn arcstring_crosses_self(v: List, n: usize, closed: u8, yes: *mut u8) -> u32;
         pub fn arcstring_same_side(ax: f64, ay: f64, az: f64, bx: f64, by: f64, bz: f64, v: List, n: usize, closed: u8, yes: *mut u8) -> u32;
         pub fn arcstring_turn_orientations(v: List, n: usize, closed: u8, out: *mut f64, room: usize, count: *mut usize) -> u32;
@@ -157,16 +157,16 @@ unsafe fn single(r: &Request, lent: &mut Lent) -> u32 {
 }
 
 unsafe fn listing(r: &Request, lent: &mut Lent) -> u32 {
-    let ([a, _, b, _], [ac, bc], room) = (&r.lists, r.flags, r.room);
+    let ([a, _, b, _], [ac, bc], margin, room) = (&r.lists, r.flags, r.margin, r.room);
     let (ap, an, bp, bn) = (a.as_ptr(), a.len(), b.as_ptr(), b.len());
     let (points, marks, numbers) = (lent.floats.as_mut_ptr(), lent.bytes.as_mut_ptr(), lent.numbers.as_mut_ptr());
     let kept = numbers as *mut usize;
     unsafe {
         match r.call {
-            Call::LegCrossings => c::arcstring_leg_crossings(ap, bp, bn, bc, points, room.floats, marks, room.bytes, kept, numbers.add(1)),
-            Call::Crossings => c::arcstring_crossings(ap, an, ac, bp, bn, bc, points, room.floats, marks, room.bytes, kept, numbers.add(1)),
-            Call::CrossingsWithSelf => c::arcstring_crossings_with_self(ap, an, points, room.floats, marks, room.bytes, kept, numbers.add(1)),
-            Call::Count => c::arcstring_count(ap, an, ac, bp, bn, bc, numbers),
+            Call::LegCrossings => c::arcstring_leg_crossings(ap, bp, bn, bc, margin, points, room.floats, marks, room.bytes, kept, numbers.add(1)),
+            Call::Crossings => c::arcstring_crossings(ap, an, ac, bp, bn, bc, margin, points, room.floats, marks, room.bytes, kept, numbers.add(1)),
+            Call::CrossingsWithSelf => c::arcstring_crossings_with_self(ap, an, margin, points, room.floats, marks, room.bytes, kept, numbers.add(1)),
+            Call::Count => c::arcstring_count(ap, an, ac, bp, bn, bc, margin, numbers),
             Call::CrossesSelf => c::arcstring_crosses_self(ap, an, ac, marks),
             _ => c::arcstring_same_side(a[0], a[1], a[2], a[3], a[4], a[5], bp, bn, bc, marks),
         }

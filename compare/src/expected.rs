@@ -77,10 +77,10 @@ fn accepted(r: &Request) -> Answer {
 fn of_strings(r: &Request, p: &[Xyz]) -> Answer {
     let (s, t) = both(r);
     match r.call {
-        Call::LegCrossings => listing(&[(p[0], p[1])], &t),
-        Call::Crossings => listing(&legs(p, s.closed), &t),
-        Call::Count => Answer { numbers: listing(&legs(p, s.closed), &t).numbers[1..].to_vec(), ..Answer::default() },
-        Call::CrossingsWithSelf => with_self(&s),
+        Call::LegCrossings => listing(r, &[(p[0], p[1])], &t),
+        Call::Crossings => listing(r, &legs(p, s.closed), &t),
+        Call::Count => counted(listing(r, &legs(p, s.closed), &t)),
+        Call::CrossingsWithSelf => listed(r, &s.crossings_with_self().map_or(vec![], |k| k.xyzs)),
         Call::CrossesSelf => verdict(s.crosses_self()),
         Call::SameSide => verdict(points_are_on_same_side(&p[0], &p[1], &t)),
         Call::Along => verdict(point_is_along_arcstring(&p[0], &t)),
@@ -109,32 +109,30 @@ fn run(v: &[f64], from: usize, to: usize) -> Answer {
     Answer { numbers: if whole { vec![3 * from as u64, 3 * (to - from) as u64] } else { vec![0, 0] }, ..Answer::default() }
 }
 
-/// the published point, and whether the published listing of the first leg with the second keeps one; the class is docs/TERMS.md's
+/// the published point, and whether the published listing of the first leg with the second keeps one; the class is docs/TERMS.md's, at
+/// margin 0
 fn pair(a: Leg, b: Leg) -> Answer {
     let point = arcs_crossing((&a.0, &a.1), (&b.0, &b.1));
     let second = flat(&[b.0, b.1]);
     let kept = arc_crossings_with_arcstring((&a.0, &a.1), &stored(&second, &second, false)).is_some();
-    Answer { floats: point.map_or(vec![], |p| p.to_vec()), bytes: vec![classes::judge(a, b).class as u8, kept as u8], ..Answer::default() }
+    Answer { floats: point.map_or(vec![], |p| p.to_vec()), bytes: vec![classes::judge(a, b).class(0.0) as u8, kept as u8], ..Answer::default() }
 }
 
-/// the points that the published listing kept, with the marks and counts of the visited pairs
-fn listed(kept: &[Xyz], pairs: impl Iterator<Item = (Leg, Leg)>) -> Answer {
-    let (marks, counts) = classes::tally(pairs);
+/// the points that the published listing kept, with the marks and counts of the visited pairs at the margin
+fn listed(r: &Request, kept: &[Xyz]) -> Answer {
+    let (marks, counts, grazed) = classes::tally(classes::pairs(r), r.margin);
     assert_eq!(marks.len(), kept.len(), "the classes keep as many points as the published listing");
     let mut numbers = vec![kept.len() as u64];
     numbers.extend(counts);
-    Answer { floats: flat(kept), bytes: marks, numbers, ..Answer::default() }
+    Answer { floats: flat(kept), bytes: marks, numbers, grazed, ..Answer::default() }
 }
 
-fn listing(first: &[Leg], t: &ArcString) -> Answer {
-    let others = legs(&t.points.xyzs, t.closed);
+fn listing(r: &Request, first: &[Leg], t: &ArcString) -> Answer {
     let kept: Vec<Xyz> = first.iter().flat_map(|l| arc_crossings_with_arcstring((&l.0, &l.1), t).unwrap_or_default()).collect();
-    listed(&kept, first.iter().flat_map(|l| others.iter().map(|b| (*l, *b))))
+    listed(r, &kept)
 }
 
-fn with_self(s: &ArcString) -> Answer {
-    let own = legs(&s.points.xyzs, false);
-    let kept = s.crossings_with_self().map_or(vec![], |k| k.xyzs);
-    let pairs: Vec<(Leg, Leg)> = (0..own.len()).flat_map(|i| (i + 2..own.len()).map(move |j| (i, j))).map(|(i, j)| (own[i], own[j])).collect();
-    listed(&kept, pairs.into_iter())
+/// the counts of a listing alone
+fn counted(listing: Answer) -> Answer {
+    Answer { numbers: listing.numbers[1..].to_vec(), grazed: listing.grazed, ..Answer::default() }
 }

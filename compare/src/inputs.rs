@@ -2,18 +2,20 @@
 //! along their legs, near lists that differ, buoys that are not as many as points, and rooms around the length of the answer.
 use crate::answers::Expected;
 use crate::lists::{flat, triples};
-use crate::random::{Points, Xyz, clamp};
+use crate::random::{Points, Random, Xyz, clamp};
 use crate::request::{Places, Request};
 
 pub struct Inputs {
     pub points: Points,
+    /// what margins are drawn by: the lists are the same with them and without
+    pub margins: Random,
     /// strings of up to 1,024 vertices now and then
     pub long: bool,
 }
 
 impl Inputs {
     pub fn new(seed: u64) -> Self {
-        Self { points: Points::new(seed), long: false }
+        Self { points: Points::new(seed), margins: Random(seed << 32), long: false }
     }
 
     pub fn below(&mut self, n: u64) -> u64 {

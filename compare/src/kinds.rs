@@ -1,12 +1,17 @@
 //! Which branch of a call an answer took: the summary counts by these, and each is at most 48 bytes.
-use crate::answers::Expected;
+use crate::answers::{Answer, Expected};
 use crate::calls::{BLANK, Left, bits};
+use crate::expected;
 use crate::request::{Call, Places, Request};
+use crate::table;
 
 pub fn kind(r: &Request, expected: &Expected, left: &Left) -> String {
     let name = r.call.name();
     match left.number {
-        0 => format!("{name}{}", branch(r, left)),
+        0 => format!("{name}{}", with_margin(r, expected).map_or_else(|| branch(r, left), str::to_string)),
+        9 if no_room_either(r) => format!("{name}: refusal 9 before 7"),
+        9 => format!("{name}: refusal 9, {}", refused_margin(r.margin)),
+        n if table::margin(r.margin) != 0 => format!("{name}: refusal {n} before 9"),
         3 if r.lists.iter().all(|l| l.len() <= 3072) => format!("{name}: refusal 3 of a result"),
         7 if buoys_alone_are_short(r, expected) => format!("{name}: refusal 7 of the buoys alone"),
         10 if r.buoys[0].len() == r.lists[0].len() / 3 => format!("{name}: refusal 10 of the points"),
@@ -17,6 +22,38 @@ pub fn kind(r: &Request, expected: &Expected, left: &Left) -> String {
 /// whether every other buffer is long enough
 fn buoys_alone_are_short(r: &Request, expected: &Expected) -> bool {
     expected.as_ref().is_ok_and(|answer| Places { buoys: 0, ..answer.needed(r.call) }.fit(r.room))
+}
+
+/// whether the answer at margin 0 is longer than a buffer
+fn no_room_either(r: &Request) -> bool {
+    expected::result(&r.clone().margin(0.0)).is_ok_and(|answer| !answer.needed(r.call).fit(r.room))
+}
+
+fn refused_margin(margin: f64) -> &'static str {
+    match margin {
+        m if m.is_nan() => "NaN",
+        m if m.is_infinite() => "infinite",
+        _ => "below 0",
+    }
+}
+
+/// what a margin other than +0 did
+fn with_margin(r: &Request, expected: &Expected) -> Option<&'static str> {
+    match expected {
+        Ok(answer) if r.margin.to_bits() != 0 => Some(if r.margin == 0.0 { ": margin -0" } else { grazed(r.call, answer) }),
+        _ => None,
+    }
+}
+
+fn grazed(call: Call, answer: &Answer) -> &'static str {
+    let (counts, from) = (answer.numbers.last_chunk::<4>().unwrap_or(&[0; 4]), answer.grazed.from);
+    match counts {
+        [0, 0, 1..=u64::MAX, 0] if call == Call::Count || !answer.bytes.is_empty() => ": margin, all pairs graze",
+        _ if answer.grazed.at > 0 => ": margin at a side value",
+        _ if from[0] > 0 => ": margin, clean ones graze",
+        _ if from[1] + from[3] > 0 => ": margin, others graze",
+        _ => ": margin, no more graze",
+    }
 }
 
 fn branch(r: &Request, left: &Left) -> String {

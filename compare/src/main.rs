@@ -16,6 +16,8 @@ mod found;
 mod inputs;
 mod kinds;
 mod lists;
+mod margin;
+mod margins;
 mod narrow;
 mod numbered;
 mod plane;
@@ -43,13 +45,14 @@ use tally::Tally;
 type Work = fn(&mut Tally, u64);
 
 /// What can be compared, with the usual number of comparisons; the found and the small requests are as many as there are.
-const COMPARISONS: [(&str, u64, Work); 10] = [
+const COMPARISONS: [(&str, u64, Work); 11] = [
     ("found", 1, found::run),
     ("roots", 12_000_000, roots::run),
     ("vectors", 3_000_000, vectors::run),
     ("small", 1, small::run),
-    ("strings", 6_000_000, strings::run),
-    ("narrow", 5_000_000, narrow::run),
+    ("strings", 6_150_000, strings::run),
+    ("narrow", 5_100_000, narrow::run),
+    ("margin", 4_000_000, margin::run),
     ("plane", 3_000_000, plane::run),
     ("edits", 1_000_000, edits::run),
     ("buoys", 3_000_000, buoys::run),
@@ -95,8 +98,14 @@ fn requests(file: &str) -> bool {
 }
 
 /// what a sample is taken from
-const SAMPLED: [(&str, u64, Work); 5] =
-    [("found", 1, found::run), ("edits", 60_000, edits::run), ("buoys", 200_000, buoys::run), ("strings", 200_000, strings::run), ("small", 1, small::run)];
+const SAMPLED: [(&str, u64, Work); 6] = [
+    ("found", 1, found::run),
+    ("edits", 60_000, edits::run),
+    ("buoys", 200_000, buoys::run),
+    ("strings", 200_000, strings::run),
+    ("margin", 60_000, margin::run),
+    ("small", 1, small::run),
+];
 
 /// stores a sample of the found, the random and the small requests in a folder
 fn sample(folder: &str) -> bool {

@@ -5,6 +5,7 @@ use crate::classes::{legs, sides};
 use crate::expected;
 use crate::inputs::{Inputs, between, unit, within_range};
 use crate::lists::{flat, triples};
+use crate::margin;
 use crate::random::Xyz;
 use crate::request::{Call, Places, Request};
 use crate::small::send;
@@ -207,7 +208,7 @@ fn see(tally: &mut Tally, a: &[f64], a_closed: bool, b: &[f64], b_closed: bool) 
 // ---- requests
 
 /// two strings with their flags, the second laid out beside the first or the other way round
-fn strings(i: &mut Inputs, turn: usize) -> [(Vec<f64>, u8); 2] {
+pub fn strings(i: &mut Inputs, turn: usize) -> [(Vec<f64>, u8); 2] {
     let (n, m) = sizes(i, turn);
     let factors = i.points.random.of(&[1, 2, 3, 4, 5, 5, 7, 7]);
     let fa = flag(i, n);
@@ -237,6 +238,7 @@ fn requests(tally: &mut Tally, i: &mut Inputs, turn: usize) {
     send(tally, Request::new(Call::SameSide, &[&leg, &[], &b]).flags(0, fb));
     listed(tally, i, Request::new(Call::CrossingsWithSelf, &[&a]));
     send(tally, Request::new(Call::CrossesSelf, &[&a]).flags(fa, 0));
+    margin::also(tally, i, margin::Lists { a: &a, b: &b, leg: &leg, flags: [fa, fb] });
 }
 
 pub fn run(tally: &mut Tally, n: u64) {

@@ -22,7 +22,7 @@ const BY: [f64; 7] = [0.5, 0.9999999, 1.0 - 2.3e-16, 1.0, 1.0 + 2.3e-16, 1.00000
 const LONGER: [f64; 10] = [1.0, 0.9, 0.5, 1e-3, 1e-8, 2.0, 1.9999999999, 2.0000000001, 1e3, 1e160];
 
 /// two points, far apart, near each other, around the shortest normals, nearly opposite
-fn two(i: &mut Inputs) -> (Xyz, Xyz) {
+pub fn two(i: &mut Inputs) -> (Xyz, Xyz) {
     let points = i.course(2, false);
     let step: f64 = i.points.random.of(&[1.0, 1e-3, 1e-7, 2e-8, 3e-11, -1.0]);
     let near = unit([0, 1, 2].map(|k| step.signum() * points[0][k] + step.abs() * points[1][k]));
@@ -30,7 +30,7 @@ fn two(i: &mut Inputs) -> (Xyz, Xyz) {
 }
 
 /// a third point between the two, at one, beyond one, opposite, moved off their plane
-fn third(i: &mut Inputs, (a, b): (Xyz, Xyz)) -> Xyz {
+pub fn third(i: &mut Inputs, (a, b): (Xyz, Xyz)) -> Xyz {
     let t = i.points.random.of(&[0.0, 0.5, 0.25, 1.0, 1.5, -0.5, 1.0000001]);
     let on = if i.one_in(12) { a.map(|x| -x) } else { between(a, b, t) };
     let normal = xyz_cross(&a, &b);

@@ -1,5 +1,6 @@
 //! A request: one call of arcstring_c with everything that it is lent. As a line it is what crates/replay reads, so that a
 //! difference can be run again by either program.
+use crate::calls::bits;
 
 /// The calls, in the sequence of their numbers in a line.
 #[derive(Clone, Copy, Debug, PartialEq, Eq, PartialOrd, Ord)]
@@ -115,6 +116,11 @@ impl Call {
         }
     }
 
+    /// whether it is lent a margin: a pair grazes where the size of a side value is no larger
+    pub fn takes_margin(self) -> bool {
+        matches!(self, LegCrossings | Crossings | Count | CrossingsWithSelf)
+    }
+
     /// how many lists of buoys it is lent: that of the first list's vertices, and that of the points put in or cut at
     pub fn buoy_lists(self) -> usize {
         match self {
@@ -125,26 +131,27 @@ impl Call {
     }
 }
 
-/// A call, its flags, positions and lists, and the lengths of its buffers. The lists are: the first string's vertices (or points, or
-/// a leg by itself), its near list; the second string's vertices (or extra points), its near list. The buoys are those of the first
-/// and of the third list.
+/// A call, its flags, positions, margin and lists, and the lengths of its buffers. The lists are: the first string's vertices (or
+/// points, or a leg by itself), its near list; the second string's vertices (or extra points), its near list. The buoys are those of
+/// the first and of the third list. The margin is 0 for a call that takes none.
 #[derive(Clone, Debug)]
 pub struct Request {
     pub call: Call,
     pub flags: [u8; 2],
     pub at: [usize; 2],
     pub room: Places,
+    pub margin: f64,
     pub lists: [Vec<f64>; 4],
     pub buoys: [Vec<u32>; 2],
 }
 
 impl Request {
-    /// a call on the first lists given, open, with no buffers, and with a buoy of its own for each vertex and point
+    /// a call on the first lists given, open, with no buffers, at margin 0, and with a buoy of its own for each vertex and point
     pub fn new(call: Call, lists: &[&[f64]]) -> Self {
         let list = |k: usize| lists.get(k).map_or(vec![], |l| l.to_vec());
         let lists = [list(0), list(1), list(2), list(3)];
         let buoys = [0, 1].map(|k| if k < call.buoy_lists() { different(k as u32, lists[2 * k].len() / 3) } else { vec![] });
-        Self { call, flags: [0, 0], at: [0, 0], room: Places::default(), lists, buoys }
+        Self { call, flags: [0, 0], at: [0, 0], room: Places::default(), margin: 0.0, lists, buoys }
     }
 
     pub fn flags(mut self, a: u8, b: u8) -> Self {
@@ -154,6 +161,11 @@ impl Request {
 
     pub fn at(mut self, from: usize, to: usize) -> Self {
         self.at = [from, to];
+        self
+    }
+
+    pub fn margin(mut self, margin: f64) -> Self {
+        self.margin = margin;
         self
     }
 
@@ -178,6 +190,7 @@ impl Request {
         let room = [self.room.floats, self.room.bytes, self.room.numbers, self.room.buoys];
         let mut words = vec![self.call as u64, self.flags[0] as u64, self.flags[1] as u64, self.at[0] as u64, self.at[1] as u64];
         words.extend(room.map(|n| n as u64));
+        words.extend(bits(&[self.margin]));
         self.lists.iter().for_each(|list| words.extend(listed(list.iter().map(|x| x.to_bits()).collect())));
         self.buoys.iter().for_each(|list| words.extend(listed(list.iter().map(|n| *n as u64).collect())));
         let words: Vec<String> = words.iter().map(|w| format!("{w:016X}")).collect();
@@ -193,6 +206,7 @@ impl Request {
         let at = [next()? as usize, next()? as usize];
         let [floats, bytes, numbers, buoys] = [next()? as usize, next()? as usize, next()? as usize, next()? as usize];
         let room = Places { floats, buoys, bytes, numbers };
+        let margin = f64::from_bits(next()?);
         let mut lists: [Vec<f64>; 4] = Default::default();
         for list in &mut lists {
             *list = list_of(&mut next)?.into_iter().map(f64::from_bits).collect();
@@ -201,7 +215,7 @@ impl Request {
         for list in &mut buoys {
             *list = list_of(&mut next)?.into_iter().map(|n| u32::try_from(n).ok()).collect::<Option<Vec<u32>>>()?;
         }
-        Some(Self { call, flags, at, room, lists, buoys })
+        Some(Self { call, flags, at, room, margin, lists, buoys })
     }
 }
 

@@ -15,12 +15,12 @@ fn crossings(two: &Two) -> u64 {
 
 fn line(kind: &str, n: usize, step: f64) {
     let two = Two::new(n, step);
-    let (pairs, clean, found) = (two.pairs(), two.count()[0], crossings(&two));
+    let (pairs, clean, found) = (two.pairs(), two.count(0.0)[0], crossings(&two));
     let mut room = Room::of(pairs);
     let [s2, count, list] = by_turns(two.inner(), [
         &mut || _ = black_box(crossings(&two)),
-        &mut || _ = black_box(two.count()),
-        &mut || _ = black_box(two.list(&mut room)),
+        &mut || _ = black_box(two.count(0.0)),
+        &mut || _ = black_box(two.list(0.0, &mut room)),
     ]);
     println!("| {kind} | {n} | {found} | {clean} | {:.1} | {:.2} | {:.2} |", s2 / pairs as f64, count / s2, list / s2);
 }

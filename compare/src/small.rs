@@ -34,6 +34,17 @@ pub fn send(tally: &mut Tally, mut r: Request) {
     tally.request(&r, &expected);
 }
 
+/// margins of the calls that take one: as 0, and at side values of the points below
+const MARGINS: [f64; 3] = [-0.0, 0.25, 1.0];
+
+/// the same at margin 0 and, where the call takes one, at others
+fn send_at_margins(tally: &mut Tally, r: Request) {
+    for margin in if r.call.takes_margin() { &MARGINS[..] } else { &[] } {
+        send(tally, r.clone().margin(*margin));
+    }
+    send(tally, r);
+}
+
 /// six axis and diagonal points that lie on, between and beyond one another's legs
 const COURSE: [Xyz; 6] = [[1.0, 0.0, 0.0], [0.0, 1.0, 0.0], [1.0, 1.0, 0.0], [0.0, 0.0, 1.0], [-1.0, -0.0, 0.0], [1.0, 0.5, 0.5]];
 
@@ -72,7 +83,7 @@ fn one_string(tally: &mut Tally) {
         for flag in [0, 1] {
             for call in ONE_STRING {
                 for at in 0..if call == Call::Restart { v.len() / 3 + 1 } else { 1 } {
-                    send(tally, Request::new(call, &[&v]).flags(flag, 0).at(at, 0));
+                    send_at_margins(tally, Request::new(call, &[&v]).flags(flag, 0).at(at, 0));
                 }
             }
         }
@@ -88,6 +99,14 @@ fn rooms(tally: &mut Tally, mut r: Request) {
             tally.request(&r, &expected);
         }
     }
+}
+
+/// the same at margin 0 and, where the call takes one, at a margin over 0 and at refused ones
+fn rooms_at_margins(tally: &mut Tally, r: Request) {
+    for margin in if r.call.takes_margin() { &[0.25, -0.25, f64::NAN, f64::INFINITY][..] } else { &[] } {
+        rooms(tally, r.clone().margin(*margin));
+    }
+    rooms(tally, r);
 }
 
 /// a request with 0 to 8 buoys in each list of them that it is lent
@@ -111,13 +130,13 @@ fn lengths(tally: &mut Tally) {
         for call in ONE_STRING {
             let r = Request::new(call, &[v]).flags(1, 0).at(1, 0);
             buoys(tally, &r);
-            rooms(tally, r);
+            rooms_at_margins(tally, r);
         }
         for m in [0, 3, 4, 6, 9] {
             for call in [Call::Crossings, Call::InsertVertices, Call::Split] {
                 let r = Request::new(call, &[v, &[], &long[40 - m..]]).flags(1, 1);
                 buoys(tally, &r);
-                rooms(tally, r);
+                rooms_at_margins(tally, r);
             }
         }
         rooms(tally, Request::new(Call::SplitLeg, &[&long[..6], &[], &long[40 - n..]]));
@@ -130,7 +149,7 @@ fn two_strings(tally: &mut Tally) {
         for b in &strings {
             for flags in [[0, 0], [0, 1], [1, 0], [1, 1]] {
                 for call in TWO_STRINGS {
-                    send(tally, Request::new(call, &[a, a, b, b]).flags(flags[0], flags[1]));
+                    send_at_margins(tally, Request::new(call, &[a, a, b, b]).flags(flags[0], flags[1]));
                 }
             }
         }
@@ -147,7 +166,7 @@ fn with_string(tally: &mut Tally) {
                 send(tally, Request::new(Call::Along, &[&p, &[], v, &v[..3]]).flags(0, flag));
             }
             for leg in lists(&COURSE, 2) {
-                send(tally, Request::new(Call::LegCrossings, &[&leg, &[], v]).flags(0, flag));
+                send_at_margins(tally, Request::new(Call::LegCrossings, &[&leg, &[], v]).flags(0, flag));
                 send(tally, Request::new(Call::SameSide, &[&leg, &[], v]).flags(0, flag));
             }
             for points in &extra {

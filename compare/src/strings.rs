@@ -3,6 +3,7 @@ use crate::calls;
 use crate::expected;
 use crate::inputs::Inputs;
 use crate::lists::{flat, triples};
+use crate::margin;
 use crate::numbered::vertices;
 use crate::request::{Call, Places, Request};
 use crate::tally::Tally;
@@ -50,6 +51,7 @@ fn listings(tally: &mut Tally, i: &mut Inputs) {
     for call in [Call::CrossingsWithSelf, Call::CrossesSelf] {
         send(tally, i, Request::new(call, &[&a]).flags(fa, 0));
     }
+    margin::also(tally, i, margin::Lists { a: &a, b: &b, leg: &leg, flags: [fa, fb] });
 }
 
 /// near lists that are the vertices, a part of them, or other points; strings that share vertices
@@ -86,10 +88,10 @@ fn shared(a: &[f64], i: &mut Inputs) -> Vec<f64> {
     flat(&points)
 }
 
-/// The counts and the clean points of two held strings, by value and without their sequence; none where the call refuses.
-fn counts_and_clean_points([a, b]: &[Request; 2]) -> Option<(Vec<u64>, Vec<[u64; 3]>)> {
-    let mut r = crossed(a, b);
-    let pairs = r.lists[0].len() * r.lists[2].len() / 9;
+/// The counts and the clean points of a listing, by value and without their sequence; none where the call refuses.
+fn counts_and_clean_points(mut r: Request) -> Option<(Vec<u64>, Vec<[u64; 3]>)> {
+    let second = if r.call == Call::CrossingsWithSelf { 0 } else { 2 };
+    let pairs = r.lists[0].len() * r.lists[second].len() / 9;
     r.room = Places { floats: 3 * pairs, bytes: pairs, ..Places::default() };
     let left = calls::answer(&r);
     let kept = left.numbers[0] as usize;
@@ -103,8 +105,9 @@ fn counts_and_clean_points([a, b]: &[Request; 2]) -> Option<(Vec<u64>, Vec<[u64;
     (left.number == 0).then_some((left.numbers[1..].to_vec(), clean))
 }
 
-fn crossed(a: &Request, b: &Request) -> Request {
-    Request::new(Call::Crossings, &[&a.lists[0], &[], &b.lists[0]]).flags(a.flags[0], b.flags[0])
+/// the listing of two held strings
+fn crossed([a, b]: &[Request; 2], margin: f64) -> Request {
+    Request::new(Call::Crossings, &[&a.lists[0], &[], &b.lists[0]]).flags(a.flags[0], b.flags[0]).margin(margin)
 }
 
 /// the vertices of two held strings by their bits, each with its buoy, without their sequence
@@ -115,14 +118,13 @@ fn carried(held: &[Request; 2]) -> Vec<([u64; 3], u32)> {
     all
 }
 
-/// The counts and the clean points after a random list of changes are those before it, refused changes among them, and every vertex has
-/// kept its buoy. A string is held as the request of its change.
-fn changes(tally: &mut Tally, i: &mut Inputs) {
-    let mut held = [0, 1].map(|_| Request::new(Call::WalkBack, &[&i.string()]).flags(i.flag(), 0));
+/// The counts and the clean points at one margin after a random list of changes are those before it, refused changes among them, and every
+/// vertex has kept its buoy. A string is held as the request of its change.
+pub fn changed(tally: &mut Tally, i: &mut Inputs, mut held: [Request; 2], margin: f64) {
     if held[0].lists[0].len() * held[1].lists[0].len() > 90_000 {
         return;
     }
-    let before = (counts_and_clean_points(&held), carried(&held));
+    let before = (counts_and_clean_points(crossed(&held, margin)), carried(&held));
     for _ in 0..i.below(6) {
         let Some(call) = i.points.random.of(&[None, Some(Call::WalkBack), Some(Call::Restart)]) else {
             held.swap(0, 1);
@@ -142,8 +144,20 @@ fn changes(tally: &mut Tally, i: &mut Inputs) {
         }
     }
     if before.0.is_some() {
-        let same = before == (counts_and_clean_points(&held), carried(&held));
-        tally.compare("counts and clean points after changes", same, || crossed(&held[0], &held[1]).line("after changes"));
+        let same = before == (counts_and_clean_points(crossed(&held, margin)), carried(&held));
+        let kind = if margin == 0.0 { "counts and clean points after changes" } else { "counts and clean points after changes: a margin" };
+        tally.compare(kind, same, || crossed(&held, margin).line("after changes"));
+    }
+}
+
+/// the same of a string with itself, walked backwards
+pub fn walked_back(tally: &mut Tally, v: &[f64], margin: f64) {
+    let listing = |v: &[f64]| Request::new(Call::CrossingsWithSelf, &[v]).margin(margin);
+    if v.len() <= 300 && let Some(before) = counts_and_clean_points(listing(v)) {
+        let mut back = triples(v);
+        back.reverse();
+        let same = counts_and_clean_points(listing(&flat(&back))) == Some(before);
+        tally.compare("crossings_with_self: walked backwards", same, || listing(v).line("walked backwards"));
     }
 }
 
@@ -155,6 +169,7 @@ pub fn run(tally: &mut Tally, n: u64) {
         moves(tally, &mut i);
         listings(tally, &mut i);
         relations(tally, &mut i);
-        changes(tally, &mut i);
+        let held = [0, 1].map(|_| Request::new(Call::WalkBack, &[&i.string()]).flags(i.flag(), 0));
+        changed(tally, &mut i, held, 0.0);
     }
 }

@@ -1,5 +1,5 @@
 //! docs/TERMS.md's table of refusals, read independently of the proved library: the list checks of each call, in number
-//! order within a list but for 10, which comes right after 1, and the lists in the sequence that it gives.
+//! order within a list but for 10, which comes right after 1, the lists in the sequence that it gives, and the margin after them.
 use crate::request::{Call, Request};
 
 const MOST: usize = 3 * 1024;
@@ -52,6 +52,10 @@ fn to_halve(v: &[f64], closed: bool) -> u32 {
     points(v, v.is_empty(), None, !closed && v.len() == 3)
 }
 
+pub fn margin(margin: f64) -> u32 {
+    first(&[(margin < 0.0 || margin.is_nan() || margin.is_infinite(), 9)])
+}
+
 /// the number of the first check that refuses, 0 where none does
 pub fn refusal(r: &Request) -> u32 {
     let ([a, a_near, b, b_near], [a_buoys, b_buoys]) = (&r.lists, &r.buoys);
@@ -60,10 +64,12 @@ pub fn refusal(r: &Request) -> u32 {
         Call::Pair => in_turn(&[single(a), single(b)]),
         Call::Build | Call::BuildFlagged => to_build(a, a_buoys),
         Call::WalkBack | Call::Restart | Call::Simplify => stored_with(a, a_buoys),
-        Call::CrossingsWithSelf | Call::CrossesSelf | Call::TurnOrientations => stored(a),
+        Call::CrossesSelf | Call::TurnOrientations => stored(a),
+        Call::CrossingsWithSelf => in_turn(&[stored(a), margin(r.margin)]),
         Call::Run => 0,
-        Call::LegCrossings | Call::SameSide => in_turn(&[single(a), stored(b)]),
-        Call::Crossings | Call::Count => in_turn(&[stored(a), stored(b)]),
+        Call::SameSide => in_turn(&[single(a), stored(b)]),
+        Call::LegCrossings => in_turn(&[single(a), stored(b), margin(r.margin)]),
+        Call::Crossings | Call::Count => in_turn(&[stored(a), stored(b), margin(r.margin)]),
         Call::Midpoints => to_halve(a, r.flags[0] != 0),
         Call::Along => in_turn(&[stored(b), stored(b_near), single(a)]),
         Call::InsertVertices | Call::Split => in_turn(&[stored_with(a, a_buoys), extra_with(b, b_buoys)]),

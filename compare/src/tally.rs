@@ -13,11 +13,11 @@ use std::time::Instant;
 struct Counts(BTreeMap<String, u64>);
 
 impl Counts {
-    fn add(&mut self, kind: &str) {
+    fn add(&mut self, kind: &str, times: u64) {
         match self.0.get_mut(kind) {
-            Some(n) => *n += 1,
+            Some(n) => *n += times,
             None => {
-                self.0.insert(kind.to_string(), 1);
+                self.0.insert(kind.to_string(), times);
             }
         }
     }
@@ -46,13 +46,17 @@ impl Tally {
 
     /// something that the inputs held: counted in the summary, and no comparison
     pub fn see(&mut self, kind: &str) {
-        self.seen.add(kind);
+        self.see_times(kind, 1);
+    }
+
+    pub fn see_times(&mut self, kind: &str, times: u64) {
+        self.seen.add(kind, times);
     }
 
     /// one comparison of the kind; `input` is shown where the two differ
     pub fn compare(&mut self, kind: &str, same: bool, input: impl Fn() -> String) {
         self.done += 1;
-        self.kinds.add(kind);
+        self.kinds.add(kind, 1);
         if !same {
             self.different += 1;
             if self.different <= 10 {

@@ -20,13 +20,20 @@ pub extern "C" fn arcstring_count(
     a_closed: u8,
     b: &[f64],
     b_closed: u8,
+    margin: f64,
     counts: &mut [u64; 4],
 ) -> u32
-    ensures { λ r. ⌜ r ≡ answerNumber (counted (now (a .entry)) (flag «a_closed») (now (b .entry)) (flag «b_closed»)) ⌝ }
-    ensures { λ _. ⌜ now (counts .exit) ≡ leftIn fourCounts (counted (now (a .entry)) (flag «a_closed») (now (b .entry)) (flag «b_closed»))
+    ensures { λ r. ⌜ r ≡ answerNumber (counted (now (a .entry)) (flag «a_closed») (now (b .entry)) (flag «b_closed») margin) ⌝ }
+    ensures { λ _. ⌜ now (counts .exit) ≡ leftIn fourCounts (counted (now (a .entry)) (flag «a_closed») (now (b .entry)) (flag «b_closed») margin)
         (now (counts .entry)) ⌝ }
 {
-    let r = listing::count(a, lent::is_closed(a_closed), b, lent::is_closed(b_closed));
+    let r = listing::count(
+        a,
+        lent::is_closed(a_closed),
+        b,
+        lent::is_closed(b_closed),
+        margin,
+    );
     found::put_counts(r, counts)
 }
 
@@ -35,28 +42,38 @@ pub extern "C" fn arcstring_leg_crossings(
     leg: &[f64; 6],
     v: &[f64],
     closed: u8,
+    margin: f64,
     points: &mut [f64],
     marks: &mut [u8],
     kept: &mut usize,
     counts: &mut [u64; 4],
 ) -> u32
-    ensures { λ r. ⌜ r ≡ answerNumber (legCrossings (legOfSix (now (leg .entry))) (now (v .entry)) (flag closed) (length (now (points .entry)))
+    ensures { λ r. ⌜ r ≡ answerNumber (legCrossings (legOfSix (now (leg .entry))) (now (v .entry)) (flag closed) margin (length (now (points .entry)))
         (length (now (marks .entry)))) ⌝ }
     ensures { λ _. ⌜ now (points .exit) ≡ leaves
-        (listedFloats (legCrossings (legOfSix (now (leg .entry))) (now (v .entry)) (flag closed) (length (now (points .entry))) (length (now (marks .entry)))))
+        (listedFloats (legCrossings (legOfSix (now (leg .entry))) (now (v .entry)) (flag closed) margin (length (now (points .entry)))
+        (length (now (marks .entry)))))
         (now (points .entry)) ⌝ }
     ensures { λ _. ⌜ now (marks .exit) ≡ leaves
-        (listedBytes (legCrossings (legOfSix (now (leg .entry))) (now (v .entry)) (flag closed) (length (now (points .entry))) (length (now (marks .entry)))))
+        (listedBytes (legCrossings (legOfSix (now (leg .entry))) (now (v .entry)) (flag closed) margin (length (now (points .entry)))
+        (length (now (marks .entry)))))
         (now (marks .entry)) ⌝ }
     ensures { λ _. ⌜ now (kept .exit) ≡ leftIn keptCount
-        (legCrossings (legOfSix (now (leg .entry))) (now (v .entry)) (flag closed) (length (now (points .entry))) (length (now (marks .entry))))
+        (legCrossings (legOfSix (now (leg .entry))) (now (v .entry)) (flag closed) margin (length (now (points .entry))) (length (now (marks .entry))))
         (now (kept .entry)) ⌝ }
     ensures { λ _. ⌜ now (counts .exit) ≡ leftIn listingCounts
-        (legCrossings (legOfSix (now (leg .entry))) (now (v .entry)) (flag closed) (length (now (points .entry))) (length (now (marks .entry))))
+        (legCrossings (legOfSix (now (leg .entry))) (now (v .entry)) (flag closed) margin (length (now (points .entry))) (length (now (marks .entry))))
         (now (counts .entry)) ⌝ }
 {
     let arc = lent::leg_of_six(leg);
-    let r = listing::arc_crossings_with_arcstring(arc, v, lent::is_closed(closed), points, marks);
+    let r = listing::arc_crossings_with_arcstring(
+        arc,
+        v,
+        lent::is_closed(closed),
+        margin,
+        points,
+        marks,
+    );
     found::put_listing(r, kept, counts)
 }
 
@@ -66,29 +83,30 @@ pub extern "C" fn arcstring_crossings(
     a_closed: u8,
     b: &[f64],
     b_closed: u8,
+    margin: f64,
     points: &mut [f64],
     marks: &mut [u8],
     kept: &mut usize,
     counts: &mut [u64; 4],
 ) -> u32
-    ensures { λ r. ⌜ r ≡ answerNumber (crossings (now (a .entry)) (flag «a_closed») (now (b .entry)) (flag «b_closed») (length (now (points .entry)))
+    ensures { λ r. ⌜ r ≡ answerNumber (crossings (now (a .entry)) (flag «a_closed») (now (b .entry)) (flag «b_closed») margin (length (now (points .entry)))
         (length (now (marks .entry)))) ⌝ }
     ensures { λ _. ⌜ now (points .exit) ≡ leaves
-        (listedFloats (crossings (now (a .entry)) (flag «a_closed») (now (b .entry)) (flag «b_closed») (length (now (points .entry)))
+        (listedFloats (crossings (now (a .entry)) (flag «a_closed») (now (b .entry)) (flag «b_closed») margin (length (now (points .entry)))
         (length (now (marks .entry))))) (now (points .entry)) ⌝ }
     ensures { λ _. ⌜ now (marks .exit) ≡ leaves
-        (listedBytes (crossings (now (a .entry)) (flag «a_closed») (now (b .entry)) (flag «b_closed») (length (now (points .entry)))
+        (listedBytes (crossings (now (a .entry)) (flag «a_closed») (now (b .entry)) (flag «b_closed») margin (length (now (points .entry)))
         (length (now (marks .entry))))) (now (marks .entry)) ⌝ }
     ensures { λ _. ⌜ now (kept .exit) ≡ leftIn keptCount
-        (crossings (now (a .entry)) (flag «a_closed») (now (b .entry)) (flag «b_closed») (length (now (points .entry))) (length (now (marks .entry))))
+        (crossings (now (a .entry)) (flag «a_closed») (now (b .entry)) (flag «b_closed») margin (length (now (points .entry))) (length (now (marks .entry))))
         (now (kept .entry)) ⌝ }
     ensures { λ _. ⌜ now (counts .exit) ≡ leftIn listingCounts
-        (crossings (now (a .entry)) (flag «a_closed») (now (b .entry)) (flag «b_closed») (length (now (points .entry))) (length (now (marks .entry))))
+        (crossings (now (a .entry)) (flag «a_closed») (now (b .entry)) (flag «b_closed») margin (length (now (points .entry))) (length (now (marks .entry))))
         (now (counts .entry)) ⌝ }
 {
     let first = lent::is_closed(a_closed);
     let second = lent::is_closed(b_closed);
-    let r = listing::crossings(a, first, b, second, points, marks);
+    let r = listing::crossings(a, first, b, second, margin, points, marks);
     found::put_listing(r, kept, counts)
 }
 

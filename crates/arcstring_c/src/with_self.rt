@@ -14,22 +14,26 @@ use arcstring_self::with_self;
 #[no_mangle]
 pub extern "C" fn arcstring_crossings_with_self(
     v: &[f64],
+    margin: f64,
     points: &mut [f64],
     marks: &mut [u8],
     kept: &mut usize,
     counts: &mut [u64; 4],
 ) -> u32
-    ensures { λ r. ⌜ r ≡ answerNumber (selfCrossings (now (v .entry)) (length (now (points .entry))) (length (now (marks .entry)))) ⌝ }
-    ensures { λ _. ⌜ now (points .exit) ≡ leaves (listedFloats (selfCrossings (now (v .entry)) (length (now (points .entry))) (length (now (marks .entry)))))
+    ensures { λ r. ⌜ r ≡ answerNumber (selfCrossings (now (v .entry)) margin (length (now (points .entry))) (length (now (marks .entry)))) ⌝ }
+    ensures { λ _. ⌜ now (points .exit) ≡ leaves (listedFloats
+        (selfCrossings (now (v .entry)) margin (length (now (points .entry))) (length (now (marks .entry)))))
         (now (points .entry)) ⌝ }
-    ensures { λ _. ⌜ now (marks .exit) ≡ leaves (listedBytes (selfCrossings (now (v .entry)) (length (now (points .entry))) (length (now (marks .entry)))))
+    ensures { λ _. ⌜ now (marks .exit) ≡ leaves (listedBytes (selfCrossings (now (v .entry)) margin (length (now (points .entry)))
+        (length (now (marks .entry)))))
         (now (marks .entry)) ⌝ }
-    ensures { λ _. ⌜ now (kept .exit) ≡ leftIn keptCount (selfCrossings (now (v .entry)) (length (now (points .entry))) (length (now (marks .entry))))
+    ensures { λ _. ⌜ now (kept .exit) ≡ leftIn keptCount (selfCrossings (now (v .entry)) margin (length (now (points .entry))) (length (now (marks .entry))))
         (now (kept .entry)) ⌝ }
-    ensures { λ _. ⌜ now (counts .exit) ≡ leftIn listingCounts (selfCrossings (now (v .entry)) (length (now (points .entry))) (length (now (marks .entry))))
+    ensures { λ _. ⌜ now (counts .exit) ≡ leftIn listingCounts
+        (selfCrossings (now (v .entry)) margin (length (now (points .entry))) (length (now (marks .entry))))
         (now (counts .entry)) ⌝ }
 {
-    let r = with_self::crossings_with_self(v, points, marks);
+    let r = with_self::crossings_with_self(v, margin, points, marks);
     found::put_listing(r, kept, counts)
 }
 

@@ -5,7 +5,7 @@ use Prim.Native.Nat.{ℕ, zero, suc}
 use native.Mathlib.Omega.{arith}
 use Rattle.arcstring_check.specs.declared.check.Refusal.{Refusal}
 use Rattle.arcstring_check.specs.declared.check.Refusal.the-variants.{NotTriples, TooFewPoints, TooManyPoints, OutOfRange, RemovesPastEnd, ReadsPastEnd}
-use Rattle.arcstring_check.specs.declared.check.Refusal.the-variants.{NoRoom, BuoysNotAsMany}
+use Rattle.arcstring_check.specs.declared.check.Refusal.the-variants.{NoRoom, MarginOutOfRange, BuoysNotAsMany}
 use Rattle.arcstring_check.specs.declared.check.Checked.{Checked}
 use Rattle.arcstring_check.specs.declared.check.Checked.the-variants.{Accepted, Refused}
 use Rattle.arcstring_check.specs.Check.{checkNumber}
@@ -19,6 +19,7 @@ at-refusal OutOfRange x = refl
 at-refusal RemovesPastEnd x = refl
 at-refusal ReadsPastEnd x = refl
 at-refusal NoRoom x = refl
+at-refusal MarginOutOfRange x = refl
 at-refusal BuoysNotAsMany x = refl
 
 pub refuse : {A : Type 0} (e : Refusal) (n : ℕ) (x : Answer A) → n ≡ refusalNumber e → refused (refusalNumber e) ≡ unlessRefused n x
@@ -56,6 +57,12 @@ both-passed zero zero x y h = (refl, refl, cc)
 both-passed zero (suc n) x y h = absurd (let z : _≡_ {A = ℕ} 0 1 = cc in omega arith)
 both-passed (suc m) n x y h = absurd (let z : _≡_ {A = ℕ} 0 1 = cc in omega arith)
 
+-- and all of three
+pub all-passed : {A : Type 0} (m n k : ℕ) (x y : A) → unlessRefused m (unlessRefused n (unlessRefused k (answered x))) ≡ answered y
+    → (m ≡ 0) × (n ≡ 0) × (k ≡ 0) × (x ≡ y)
+all-passed zero n k x y h = let p = both-passed n k x y h in (refl, p .0, p .1, p .2)
+all-passed (suc m) n k x y h = absurd (let z : _≡_ {A = ℕ} 0 1 = cc in omega arith)
+
 refusal-first : (e : Refusal) (n : ℕ) → refusalNumber e ≡ firstOf (refusalNumber e) n
 refusal-first NotTriples n = refl
 refusal-first TooFewPoints n = refl
@@ -64,6 +71,7 @@ refusal-first OutOfRange n = refl
 refusal-first RemovesPastEnd n = refl
 refusal-first ReadsPastEnd n = refl
 refusal-first NoRoom n = refl
+refusal-first MarginOutOfRange n = refl
 refusal-first BuoysNotAsMany n = refl
 
 -- ---- the same, for code that took a check's answer apart

@@ -1,6 +1,6 @@
 -- The checks at each outcome of their tests, and what an accepted list is. Assumes nothing.
 use mathlib.Core.Path.{_≡_, refl, sym, ap, _∙_}
-use mathlib.Core.Bool.{Bool, true, false, not, _&&_, and-true, and-assoc}
+use mathlib.Core.Bool.{Bool, true, false, not, _&&_, and-true, and-assoc, Bool·not-not}
 use mathlib.Core.List.{List}
 use Prim.Native.Nat.{ℕ, suc, _+_, _*_, _/_, _%_, _≤_, _<_}
 use native.Mathlib.Omega.{arith}
@@ -8,10 +8,13 @@ use native.Mathlib.Numerals.{add-one}
 use lib.Dec.{T, ltb, eqb}
 use lib.ListN.{length, getD, drop, drop-of-length-le}
 use lib.Seq.{drop-cons}
-use lib.IntN.{pos}
-use lib.Ieee.{Float, nan, fin, le}
+use lib.IntN.{ℤ, pos}
+use lib.Ieee.{Float, nan, inf, fin, binary64, ofBits, div, lt, le}
 use lib.Ieee.Fits.{and-l, and-r}
 use Rattle.ieee754.specs.Bound.{AtMost}
+use Rattle.ieee754.proofs.Tests.{never}
+use Rattle.ieee754.proofs.Comparisons.{zeroFloat}
+use Rattle.ieee754.proofs.Order.{le-not-lt}
 use Rattle.ieee754.proofs.Bounds.{between-at-most, at-most-between}
 use Rattle.sphericalpoint.specs.declared.SphericalPoint.{SphericalPoint}
 use borrow.Author.Tests.{eqb-true, ltb-false, eq-eqb, ne-eqb, lt-ltb, le-ltb, eqb-false}
@@ -20,7 +23,7 @@ use Rattle.arcstring_check.specs.declared.check.Checked.{Checked}
 use Rattle.arcstring_check.specs.declared.check.Checked.the-variants.{Refused}
 use Rattle.arcstring_check.specs.Answer.{numberIf, firstOf, refusalNumber}
 use Rattle.arcstring_check.specs.Check.{checkNumber, inRange, allInRange, listCheck, storedCheck, buoysCheck, stringCheck, buildCheck, buildingCheck}
-use Rattle.arcstring_check.specs.Check.{mostPoints, pointsCheck, pointCheck}
+use Rattle.arcstring_check.specs.Check.{mostPoints, pointsCheck, pointCheck, marginCheck}
 use Rattle.arcstring_check.proofs.Answers.{first-passes, second-passes, first-alone, first-refused}
 
 -- ---- a coordinate: in range is at most 1 in size
@@ -256,6 +259,24 @@ build-two v h = ltb-false (length v / 3) 2 (if-none (ltb (length v / 3) 2) 1 (fe
 pub point-by-range : (p : SphericalPoint) (c : Bool) → inRange (p .x) && inRange (p .y) && inRange (p .z) ≡ c → numberIf (not c) 4 ≡ pointCheck p
 unfolding pointCheck
 point-by-range p c h = sym (ap (λ (b : Bool). numberIf (not b) 4) h)
+
+-- ---- a margin
+
+-- a finite margin is refused where it is below 0
+below : (s : Bool) (m : ℕ) (e : ℤ) → not (le zeroFloat (fin s m e)) ≡ lt (fin s m e) zeroFloat
+below s m e = ap not (le-not-lt (fin s m e) zeroFloat tt tt) ∙ Bool·not-not (lt (fin s m e) zeroFloat)
+
+-- from 0 on, and below one over zero, which is the infinity
+pub margin-tested : (x : Float) (c : Bool) → le (ofBits binary64 0) x && lt x (div binary64 (ofBits binary64 0x3ff0_0000_0000_0000) (ofBits binary64 0)) ≡ c
+    → numberIf (not c) 9 ≡ marginCheck x
+unfolding marginCheck ofBits div lt le
+margin-tested nan true h = never h
+margin-tested nan false h = refl
+margin-tested (inf true) true h = never h
+margin-tested (inf true) false h = refl
+margin-tested (inf false) true h = never h
+margin-tested (inf false) false h = refl
+margin-tested (fin s m e) c h = ap (λ (b : Bool). numberIf b 9) (sym (ap not (sym (and-true (le zeroFloat (fin s m e))) ∙ h)) ∙ below s m e)
 
 -- ---- the checks see of a list its length, and whether all its coordinates are in range
 

@@ -8,7 +8,7 @@ use Rattle.arcstring_check.specs.declared.check.Decided.{Decided}
 use Rattle.arcstring_check.specs.declared.check.Decided.the-variants as D
 use Rattle.arcstring_check.specs.declared.check.Refusal.{Refusal}
 use Rattle.arcstring_check.specs.declared.check.Refusal.the-variants.{NotTriples, TooFewPoints, TooManyPoints, OutOfRange, RemovesPastEnd, ReadsPastEnd}
-use Rattle.arcstring_check.specs.declared.check.Refusal.the-variants.{NoRoom, BuoysNotAsMany}
+use Rattle.arcstring_check.specs.declared.check.Refusal.the-variants.{NoRoom, MarginOutOfRange, BuoysNotAsMany}
 
 -- the numbers of docs/TERMS.md's table of refusals
 abbrev pub refusalNumber : Refusal → ℕ
@@ -19,6 +19,7 @@ refusalNumber OutOfRange = 4
 refusalNumber RemovesPastEnd = 5
 refusalNumber ReadsPastEnd = 6
 refusalNumber NoRoom = 7
+refusalNumber MarginOutOfRange = 9
 refusalNumber BuoysNotAsMany = 10
 
 pub data Answer (A : Type 0) : Type 0 where

@@ -5,7 +5,7 @@ use mathlib.Core.List.{List, [], _∷_}
 use Prim.Native.Nat.{ℕ, _*_, _/_, _%_}
 use lib.ListN.{length}
 use lib.Dec.{ltb, eqb}
-use lib.Ieee.{Float, fin, le}
+use lib.Ieee.{Float, nan, inf, fin, lt, le}
 use lib.IntN.{pos}
 use Rattle.sphericalpoint.specs.declared.SphericalPoint.{SphericalPoint}
 use Rattle.arcstring_check.specs.declared.check.Checked.{Checked}
@@ -65,6 +65,16 @@ pointsCheck v buoys = listCheck (buoysCheck v buoys) v
 -- a single point
 unfoldable pub pointCheck : SphericalPoint → ℕ
 pointCheck p = numberIf (not (inRange (p .x) && inRange (p .y) && inRange (p .z))) 4
+
+-- 9: a margin is below 0, a NaN or infinite; -0 is not below 0
+unfoldable pub marginCheck : Float → ℕ
+marginCheck nan = 9
+marginCheck (inf s) = 9
+marginCheck (fin s m e) = numberIf (lt (fin s m e) (fin false 0 (pos 0))) 9
+
+-- the margin of a call that takes none
+abbrev pub noMargin : Float
+noMargin = fin false 0 (pos 0)
 
 -- 7: the finished answer, of so many elements, is longer than the buffer lent for it
 unfoldable pub roomCheck : ℕ → ℕ → ℕ

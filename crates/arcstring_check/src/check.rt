@@ -16,6 +16,7 @@ pub enum Refusal {
     RemovesPastEnd,
     ReadsPastEnd,
     NoRoom,
+    MarginOutOfRange,
     BuoysNotAsMany,
 }
 
@@ -31,6 +32,7 @@ pub fn number(e: Refusal) -> u32
         Refusal::RemovesPastEnd => 5,
         Refusal::ReadsPastEnd => 6,
         Refusal::NoRoom => 7,
+        Refusal::MarginOutOfRange => 9,
         Refusal::BuoysNotAsMany => 10,
     }
 }

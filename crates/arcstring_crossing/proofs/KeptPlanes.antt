@@ -28,15 +28,15 @@ pub plane-made : (l : Leg) (u v n m p q : SphericalPoint) → u ≡ l .from → 
 unfolding planeOf normal
 plane-made l u v n m p q h i j k e f = rw (e, f, k, j, h, i)
 
-pub by-planes : (l m : Leg) (t : SphericalPoint) (s : List Float) → t ≡ xyzCross (planeOf l .normal) (planeOf m .normal)
+pub by-planes : (margin : Float) (l m : Leg) (t : SphericalPoint) (s : List Float) → t ≡ xyzCross (planeOf l .normal) (planeOf m .normal)
     → s ≡ planeSides (planeOf l) (planeOf m) t
-    → classAt t l m s ≡ pairOf l m
+    → classAt margin t l m s ≡ pairOf margin l m
 unfolding pairOf meeting sideValues sideFrom sideTo planeOf planeSides
-by-planes l m t s h k = ap (classAt t l m) k ∙ ap (λ (u : SphericalPoint). classAt u l m (planeSides (planeOf l) (planeOf m) u)) h
+by-planes margin l m t s h k = ap (classAt margin t l m) k ∙ ap (λ (u : SphericalPoint). classAt margin u l m (planeSides (planeOf l) (planeOf m) u)) h
 
 -- the class of a pair whose second leg is the one that is meant
-pub pair-with : (a x y : Leg) (r : Pair) → r ≡ pairOf a x → x ≡ y → r ≡ pairOf a y
-pair-with a x y r h e = h ∙ ap (pairOf a) e
+pub pair-with : (margin : Float) (a x y : Leg) (r : Pair) → r ≡ pairOf margin a x → x ≡ y → r ≡ pairOf margin a y
+pair-with margin a x y r h e = h ∙ ap (pairOf margin a) e
 
 -- ---- a place in the list is one run's and one place's only
 
@@ -191,50 +191,52 @@ planes-next v n old new w k p all e s =
 
 -- ---- the class of a pair, by what is read of the second leg
 
-pub read-class : (l x : Leg) (a b : Plane) (planes : List Float) (w k : ℕ) (t : SphericalPoint) (s : List Float)
+pub read-class : (margin : Float) (l x : Leg) (a b : Plane) (planes : List Float) (w k : ℕ) (t : SphericalPoint) (s : List Float)
     → a ≡ planeOf l → PlaneAt planes w k (planeOf x) → PlaneAt planes w k b → t ≡ xyzCross (a .normal) (b .normal) → s ≡ planeSides a b t
-    → classAt t l x s ≡ pairOf l x
+    → classAt margin t l x s ≡ pairOf margin l x
 unfolding planeSides
-read-class l x a b planes w k t s ha hx hb ht hs =
-    by-planes l x t s (ht ∙ ap₂ xyzCross (ap (λ (p : Plane). p .normal) ha) (sym (hb .normal-at) ∙ hx .normal-at))
+read-class margin l x a b planes w k t s ha hx hb ht hs =
+    by-planes margin l x t s (ht ∙ ap₂ xyzCross (ap (λ (p : Plane). p .normal) ha) (sym (hb .normal-at) ∙ hx .normal-at))
     (hs ∙ ap (λ (p : Plane). planeSides p b t) ha
     ∙ ap₂ (λ (u v : SphericalPoint). xyzDot (planeOf l .«past_start») t ∷ xyzDot (planeOf l .«before_end») t ∷ xyzDot u t ∷ xyzDot v t ∷ [])
     (sym (hb .past-start-at) ∙ hx .past-start-at) (sym (hb .before-end-at) ∙ hx .before-end-at))
 
 -- ---- the flags of a row
 
-module _ (a : Plane) (planes : List Float) (w from k : ℕ) where
+module _ (margin : Float) (a : Plane) (planes : List Float) (w from k : ℕ) where
   -- one more pair that is apart, where its flag is 0
-  pub aparts-next : (found f : ℕ) → (found ≡ 0 → AllApart a planes w from k)
-      → ((l x : Leg) → a ≡ planeOf l → PlaneAt planes w k (planeOf x) → f ≡ 0 → Apart ≡ pairOf l x)
-      → found + f ≡ 0 → AllApart a planes w from (k + 1)
+  pub aparts-next : (found f : ℕ) → (found ≡ 0 → AllApart margin a planes w from k)
+      → ((l x : Leg) → a ≡ planeOf l → PlaneAt planes w k (planeOf x) → f ≡ 0 → Apart ≡ pairOf margin l x)
+      → found + f ≡ 0 → AllApart margin a planes w from (k + 1)
   aparts-next found f all here z =
       let o = all (omega arith) in
       let e : f ≡ 0 = omega arith in
-      let more = below-more (λ (j : ℕ). from ≤ j → (l x : Leg) → a ≡ planeOf l → PlaneAt planes w j (planeOf x) → Apart ≡ pairOf l x) k
+      let more = below-more (λ (j : ℕ). from ≤ j → (l x : Leg) → a ≡ planeOf l → PlaneAt planes w j (planeOf x) → Apart ≡ pairOf margin l x) k
       (λ j h i l x p q. o .each j i h l x p q) (λ i l x p q. here l x p q e) in
       record { each = λ j i h l x p q. more j h i l x p q }
 
-  pub flags-next : (flags : List ℕ) (f : ℕ) → k < length flags → FlagsOf a planes w from k flags
-      → ((l x : Leg) → a ≡ planeOf l → PlaneAt planes w k (planeOf x) → f ≡ 0 → Apart ≡ pairOf l x)
-      → FlagsOf a planes w from (k + 1) (set flags k f)
+  pub flags-next : (flags : List ℕ) (f : ℕ) → k < length flags → FlagsOf margin a planes w from k flags
+      → ((l x : Leg) → a ≡ planeOf l → PlaneAt planes w k (planeOf x) → f ≡ 0 → Apart ≡ pairOf margin l x)
+      → FlagsOf margin a planes w from (k + 1) (set flags k f)
   flags-next flags f fits old here =
       let more =
-      below-more (λ (j : ℕ). from ≤ j → (l x : Leg) → a ≡ planeOf l → PlaneAt planes w j (planeOf x) → getD (set flags k f) j 0 ≡ 0 → Apart ≡ pairOf l x) k
+      below-more
+      (λ (j : ℕ). from ≤ j → (l x : Leg) → a ≡ planeOf l → PlaneAt planes w j (planeOf x) → getD (set flags k f) j 0 ≡ 0 → Apart ≡ pairOf margin l x) k
       (λ j h i l x p q z. old .each j i h l x p q (sym (getD-set-other flags k j f 0 (λ e. absurd (omega arith))) ∙ z))
       (λ i l x p q z. here l x p q (sym (getD-set-same flags k f 0 fits) ∙ z)) in
       record { each = λ j i h l x p q z. more j h i l x p q z }
 
-pub aparts-none : (a : Plane) (planes : List Float) (w from : ℕ) → AllApart a planes w from from
-aparts-none a planes w from = record { each = λ j i h l x p q. absurd (omega arith) }
+pub aparts-none : (margin : Float) (a : Plane) (planes : List Float) (w from : ℕ) → AllApart margin a planes w from from
+aparts-none margin a planes w from = record { each = λ j i h l x p q. absurd (omega arith) }
 
-pub flags-none : (a : Plane) (planes : List Float) (w from : ℕ) (flags : List ℕ) → FlagsOf a planes w from from flags
-flags-none a planes w from flags = record { each = λ j i h l x p q z. absurd (omega arith) }
+pub flags-none : (margin : Float) (a : Plane) (planes : List Float) (w from : ℕ) (flags : List ℕ) → FlagsOf margin a planes w from from flags
+flags-none margin a planes w from flags = record { each = λ j i h l x p q z. absurd (omega arith) }
 
 -- from a position on that lies past the end there are none
-pub aparts-to : (a : Plane) (planes : List Float) (w from k to : ℕ) → to ≤ k → AllApart a planes w from k → AllApart a planes w from to
-aparts-to a planes w from k to h o = record { each = λ j i m l x p q. o .each j i (omega arith) l x p q }
+pub aparts-to : (margin : Float) (a : Plane) (planes : List Float) (w from k to : ℕ) → to ≤ k → AllApart margin a planes w from k
+    → AllApart margin a planes w from to
+aparts-to margin a planes w from k to h o = record { each = λ j i m l x p q. o .each j i (omega arith) l x p q }
 
-pub flags-to : (a : Plane) (planes : List Float) (w from k to : ℕ) (flags : List ℕ) → to ≤ k → FlagsOf a planes w from k flags
-    → FlagsOf a planes w from to flags
-flags-to a planes w from k to flags h o = record { each = λ j i m l x p q z. o .each j i (omega arith) l x p q z }
+pub flags-to : (margin : Float) (a : Plane) (planes : List Float) (w from k to : ℕ) (flags : List ℕ) → to ≤ k → FlagsOf margin a planes w from k flags
+    → FlagsOf margin a planes w from to flags
+flags-to margin a planes w from k to flags h o = record { each = λ j i m l x p q z. o .each j i (omega arith) l x p q z }

@@ -44,15 +44,16 @@ pub record PlanesOf (v : List Float) (n l : ℕ) (planes : List Float) (width : 
   pub narrow : width ≤ mostPoints
   pub each : (k : ℕ) → k < l → PlaneAt planes width k (planeOf (legAt v n k))
 
--- ---- what a pass over the planes tells of the pairs of a leg, by its plane, with those from position `from` up to `to`
+-- ---- what a pass over the planes tells, at a margin, of the pairs of a leg, by its plane, with those from position `from` up to `to`
 
 -- each pair is apart
-pub record AllApart (plane : Plane) (planes : List Float) (width from to : ℕ) : Type 0 where
-  pub each : (k : ℕ) → from ≤ k → k < to → (a x : Leg) → plane ≡ planeOf a → PlaneAt planes width k (planeOf x) → Apart ≡ pairOf a x
+pub record AllApart (margin : Float) (plane : Plane) (planes : List Float) (width from to : ℕ) : Type 0 where
+  pub each : (k : ℕ) → from ≤ k → k < to → (a x : Leg) → plane ≡ planeOf a → PlaneAt planes width k (planeOf x) → Apart ≡ pairOf margin a x
 
 -- each pair whose flag is 0 is
-pub record FlagsOf (plane : Plane) (planes : List Float) (width from to : ℕ) (flags : List ℕ) : Type 0 where
-  pub each : (k : ℕ) → from ≤ k → k < to → (a x : Leg) → plane ≡ planeOf a → PlaneAt planes width k (planeOf x) → getD flags k 0 ≡ 0 → Apart ≡ pairOf a x
+pub record FlagsOf (margin : Float) (plane : Plane) (planes : List Float) (width from to : ℕ) (flags : List ℕ) : Type 0 where
+  pub each : (k : ℕ) → from ≤ k → k < to → (a x : Leg) → plane ≡ planeOf a → PlaneAt planes width k (planeOf x) → getD flags k 0 ≡ 0
+      → Apart ≡ pairOf margin a x
 
 -- of so many positions from k on, those whose flag is not 0
 unfoldable pub flaggedFrom : List ℕ → ℕ → ℕ → List ℕ

@@ -1,6 +1,7 @@
-// The class of a pair of legs: docs/TERMS.md's, over the source's `arcs_crossing`.
+// The class of a pair of legs, with no margin: docs/TERMS.md's, over the source's `arcs_crossing`.
 ghost use mathlib.Core.Path.{_≡_};
 ghost use Rattle.arcstring.specs.Leg.{legOf};
+ghost use Rattle.arcstring_check.specs.Check.{noMargin};
 ghost use Rattle.arcstring_pair.specs.Pair.{pairOf, arcsCrossing};
 ghost use Rattle.arcstring_crossing.specs.Crossing.{crossedAnswer};
 use crate::inner::planes;
@@ -19,12 +20,12 @@ pub enum Crossed {
 // The class of a pair of legs, each an array of two arrays of three. By the test that the walk makes: so the compiler has
 // one place for it, and makes one piece of it.
 fn pair_of(arc_a: [[f64; 3]; 2], arc_b: [[f64; 3]; 2]) -> Pair
-    ensures { λ r. ⌜ r ≡ pairOf (legOf «arc_a») (legOf «arc_b») ⌝ }
+    ensures { λ r. ⌜ r ≡ pairOf noMargin (legOf «arc_a») (legOf «arc_b») ⌝ }
 {
     let b = leg::leg_string(arc_b);
     let mut planes = [0.0; 9];
     planes::keep_planes(&b, 2, 1, &mut planes, 1);
-    planes::pair_at(arc_a, planes::plane_of(arc_a), &planes, 1, &b, 2, 0)
+    planes::pair_at(arc_a, planes::plane_of(arc_a), &planes, 1, &b, 2, 0, 0.0)
 }
 
 // The class of a pair of legs. Refuses by 4 of the first leg, then of the second.

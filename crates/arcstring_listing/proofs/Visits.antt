@@ -23,16 +23,17 @@ module _ (v : List Float) (closed : Bool) (l : ℕ) (accepted : storedCheck v �
   pub all-legs : legsFrom v 0 l ≡ legs (points v) closed
   all-legs = ap (legsFrom v 0) count ∙ legs-whole v (length v / 3) closed (stored-whole v accepted .triples)
 
-pub two-visits : (a : List Float) (a-closed : Bool) (la : ℕ) (b : List Float) (b-closed : Bool) (lb : ℕ) → storedCheck a ≡ 0 → la
+pub two-visits : (margin : Float) (a : List Float) (a-closed : Bool) (la : ℕ) (b : List Float) (b-closed : Bool) (lb : ℕ) → storedCheck a ≡ 0 → la
     ≡ legCount (length a / 3) a-closed
-    → storedCheck b ≡ 0 → lb ≡ legCount (length b / 3) b-closed → pairsBetween (legsFrom a 0 la) (legsFrom b 0 lb) ≡ visited a a-closed b b-closed
+    → storedCheck b ≡ 0 → lb ≡ legCount (length b / 3) b-closed → pairsBetween margin (legsFrom a 0 la) (legsFrom b 0 lb)
+    ≡ visited margin a a-closed b b-closed
 unfolding visited
-two-visits a a-closed la b b-closed lb oka ca okb cb = ap₂ pairsBetween (all-legs a a-closed la oka ca) (all-legs b b-closed lb okb cb)
+two-visits margin a a-closed la b b-closed lb oka ca okb cb = ap₂ (pairsBetween margin) (all-legs a a-closed la oka ca) (all-legs b b-closed lb okb cb)
 
-pub kept-two : (a : List Float) (a-closed : Bool) (la : ℕ) (b : List Float) (b-closed : Bool) (lb : ℕ) → storedCheck a ≡ 0 → la
+pub kept-two : (margin : Float) (a : List Float) (a-closed : Bool) (la : ℕ) (b : List Float) (b-closed : Bool) (lb : ℕ) → storedCheck a ≡ 0 → la
     ≡ legCount (length a / 3) a-closed
-    → storedCheck b ≡ 0 → lb ≡ legCount (length b / 3) b-closed → length (keptMarks (visited a a-closed b b-closed)) ≤ la * lb
-kept-two a a-closed la b b-closed lb oka ca okb cb = rw (← two-visits a a-closed la b b-closed lb oka ca okb cb) (kept-between a b la lb)
+    → storedCheck b ≡ 0 → lb ≡ legCount (length b / 3) b-closed → length (keptMarks (visited margin a a-closed b b-closed)) ≤ la * lb
+kept-two margin a a-closed la b b-closed lb oka ca okb cb = rw (← two-visits margin a a-closed la b b-closed lb oka ca okb cb) (kept-between margin a b la lb)
 
 -- ---- a leg as a string of two vertices
 
@@ -64,13 +65,13 @@ leg-accepted l h =
     (second-passes (pointCheck (l .from)) (pointCheck (l .to)) h) in
     rw e
 
-leg-visits : (l : Leg) (v : List Float) (closed : Bool) → visited (legFloats l) false v closed ≡ legPairs l v closed
+leg-visits : (margin : Float) (l : Leg) (v : List Float) (closed : Bool) → visited margin (legFloats l) false v closed ≡ legPairs margin l v closed
 unfolding visited legFloats legs pairsBetween legPairs
-leg-visits l v closed = append-nil (map (pairOf l) (legs (points v) closed))
+leg-visits margin l v closed = append-nil (map (pairOf margin l) (legs (points v) closed))
 
 module _ (l : Leg) (a : List Float) (h : a ≡ legFloats l) where
   pub accepted-as : legCheck l ≡ 0 → storedCheck a ≡ 0
   accepted-as ok = ap storedCheck h ∙ leg-accepted l ok
 
-  pub visits-as : (v : List Float) (closed : Bool) → visited a false v closed ≡ legPairs l v closed
-  visits-as v closed = ap (λ (b : List Float). visited b false v closed) h ∙ leg-visits l v closed
+  pub visits-as : (margin : Float) (v : List Float) (closed : Bool) → visited margin a false v closed ≡ legPairs margin l v closed
+  visits-as margin v closed = ap (λ (b : List Float). visited margin b false v closed) h ∙ leg-visits margin l v closed

@@ -7,7 +7,7 @@ use lib.Dec.{eqb}
 use lib.Ieee.{Float}
 use Rattle.arcstring_check.specs.Answer.{Answer, refused, answered, unlessRefused, mapAnswer, refusalNumber}
 use Rattle.arcstring.specs.Points.{points, flat}
-use Rattle.arcstring_check.specs.Check.{storedCheck, roomCheck}
+use Rattle.arcstring_check.specs.Check.{storedCheck, marginCheck, noMargin, roomCheck}
 use Rattle.arcstring_pair.specs.declared.pair.Pair.{Pair}
 use Rattle.arcstring.specs.Leg.{Leg, legCheck, legs}
 use Rattle.arcstring_pair.specs.Pair.{pairOf}
@@ -32,30 +32,35 @@ unfoldable pub inRoom : Listing → ℕ → ℕ → Answer Listing
 inRoom l pointsRoom marksRoom =
     unlessRefused (roomCheck (3 * length (l .marks)) pointsRoom) (unlessRefused (roomCheck (length (l .marks)) marksRoom) (answered l))
 
--- ---- the calls
+-- ---- the calls: 9 comes after the checks of the last list and before 7
 
--- the pairs of two strings' legs
-unfoldable pub visited : List Float → Bool → List Float → Bool → List Pair
-visited a aClosed b bClosed = pairsBetween (legs (points a) aClosed) (legs (points b) bClosed)
+-- the pairs of two strings' legs at a margin
+unfoldable pub visited : Float → List Float → Bool → List Float → Bool → List Pair
+visited margin a aClosed b bClosed = pairsBetween margin (legs (points a) aClosed) (legs (points b) bClosed)
 
-unfoldable pub counted : List Float → Bool → List Float → Bool → Answer Counts
-counted a aClosed b bClosed = unlessRefused (storedCheck a) (unlessRefused (storedCheck b) (answered (countsOf (visited a aClosed b bClosed))))
+unfoldable pub counted : List Float → Bool → List Float → Bool → Float → Answer Counts
+counted a aClosed b bClosed margin =
+    unlessRefused (storedCheck a)
+    (unlessRefused (storedCheck b) (unlessRefused (marginCheck margin) (answered (countsOf (visited margin a aClosed b bClosed)))))
 
-unfoldable pub crossings : List Float → Bool → List Float → Bool → ℕ → ℕ → Answer Listing
-crossings a aClosed b bClosed pointsRoom marksRoom =
-    unlessRefused (storedCheck a) (unlessRefused (storedCheck b) (inRoom (listingOf (visited a aClosed b bClosed)) pointsRoom marksRoom))
+unfoldable pub crossings : List Float → Bool → List Float → Bool → Float → ℕ → ℕ → Answer Listing
+crossings a aClosed b bClosed margin pointsRoom marksRoom =
+    unlessRefused (storedCheck a)
+    (unlessRefused (storedCheck b) (unlessRefused (marginCheck margin) (inRoom (listingOf (visited margin a aClosed b bClosed)) pointsRoom marksRoom)))
 
 -- one leg against a string
-unfoldable pub legPairs : Leg → List Float → Bool → List Pair
-legPairs l v closed = map (pairOf l) (legs (points v) closed)
+unfoldable pub legPairs : Float → Leg → List Float → Bool → List Pair
+legPairs margin l v closed = map (pairOf margin l) (legs (points v) closed)
 
-unfoldable pub legCrossings : Leg → List Float → Bool → ℕ → ℕ → Answer Listing
-legCrossings l v closed pointsRoom marksRoom =
-    unlessRefused (legCheck l) (unlessRefused (storedCheck v) (inRoom (listingOf (legPairs l v closed)) pointsRoom marksRoom))
+unfoldable pub legCrossings : Leg → List Float → Bool → Float → ℕ → ℕ → Answer Listing
+legCrossings l v closed margin pointsRoom marksRoom =
+    unlessRefused (legCheck l)
+    (unlessRefused (storedCheck v) (unlessRefused (marginCheck margin) (inRoom (listingOf (legPairs margin l v closed)) pointsRoom marksRoom)))
 
--- whether two points are on the same side: the leg between them has an even number of kept points with the string
+-- whether two points are on the same side: the leg between them has an even number of kept points with the string. It takes no margin.
 unfoldable pub sameSide : Leg → List Float → Bool → Answer Bool
-sameSide l v closed = unlessRefused (legCheck l) (unlessRefused (storedCheck v) (answered (eqb (length (keptMarks (legPairs l v closed)) % 2) 0)))
+sameSide l v closed =
+    unlessRefused (legCheck l) (unlessRefused (storedCheck v) (answered (eqb (length (keptMarks (legPairs noMargin l v closed)) % 2) 0)))
 
 -- ---- what is answered, and what is written
 

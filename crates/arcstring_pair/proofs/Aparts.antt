@@ -11,9 +11,9 @@ use Rattle.arcstring_pair.specs.declared.pair.Pair.the-variants.{Apart}
 use Rattle.arcstring_pair.specs.Pair.{classAt}
 use Rattle.arcstring_pair.proofs.Classes.{apart-class}
 
-module _ (t : SphericalPoint) (a b : Leg) (s : List Float) where
-  pub shows-apart : showsApart s ≡ true → Apart ≡ classAt t a b s
+module _ (margin : Float) (t : SphericalPoint) (a b : Leg) (s : List Float) where
+  pub shows-apart : showsApart margin s ≡ true → Apart ≡ classAt margin t a b s
   unfolding showsApart
   shows-apart h =
-      let k = all-three (someSide grazes s) (someSide isAbove s) (someSide isBelow s) h in
-      apart-class t a b s (k .0) (some-not-every isBelow isAbove below-not-above s (k .2)) (some-not-every isAbove isBelow above-not-below s (k .1))
+      let k = all-three (someSide (grazes margin) s) (someSide isAbove s) (someSide isBelow s) h in
+      apart-class margin t a b s (k .0) (some-not-every isBelow isAbove below-not-above s (k .2)) (some-not-every isAbove isBelow above-not-below s (k .1))

@@ -55,20 +55,22 @@ module _ (t : SphericalPoint) (a b : Leg) (s : List Float) where
   unfolding grazingOutcome
   mixed-outcome h i = rw (h, i)
 
-  pub grazing-class : (o : Outcome) → someSide grazes s ≡ true → o ≡ grazingOutcome t a b s → Grazing o ≡ classAt t a b s
+module _ (margin : Float) (t : SphericalPoint) (a b : Leg) (s : List Float) where
+  pub grazing-class : (o : Outcome) → someSide (grazes margin) s ≡ true → o ≡ grazingOutcome t a b s → Grazing o ≡ classAt margin t a b s
   unfolding classAt
   grazing-class o h k = rw (h, k)
 
-  pub above-class : (r : Pair) → someSide grazes s ≡ false → everySide isAbove s ≡ true → r ≡ endOrClean t a b → r ≡ classAt t a b s
+  pub above-class : (r : Pair) → someSide (grazes margin) s ≡ false → everySide isAbove s ≡ true → r ≡ endOrClean t a b → r ≡ classAt margin t a b s
   unfolding classAt
   above-class r h i k = rw (h, i) k
 
-  pub below-class : (r : Pair) (u : SphericalPoint) → someSide grazes s ≡ false → everySide isAbove s ≡ false → everySide isBelow s ≡ true → u ≡ xyzNeg t
+  pub below-class : (r : Pair) (u : SphericalPoint) → someSide (grazes margin) s ≡ false → everySide isAbove s ≡ false → everySide isBelow s ≡ true
+      → u ≡ xyzNeg t
       → r ≡ endOrClean u a b
-      → r ≡ classAt t a b s
+      → r ≡ classAt margin t a b s
   unfolding classAt
   below-class r u h i j e k = rw (h, i, j, ← e) k
 
-  pub apart-class : someSide grazes s ≡ false → everySide isAbove s ≡ false → everySide isBelow s ≡ false → Apart ≡ classAt t a b s
+  pub apart-class : someSide (grazes margin) s ≡ false → everySide isAbove s ≡ false → everySide isBelow s ≡ false → Apart ≡ classAt margin t a b s
   unfolding classAt
   apart-class h i j = rw (h, i, j)

@@ -21,7 +21,7 @@ use Rattle.sphericalpoint.specs.Vector.{xyzMul, xyzNeg, xyzSum, xyzDot, xyzCros
 use Rattle.arcstring_check.specs.Check.{inRange}
 use Rattle.arcstring_check.proofs.Checks.{range-bound}
 use Rattle.arcstring.specs.Leg.{Leg}
-use Rattle.arcstring_sides.specs.Sides.{zeroFloat, grazes, isAbove, isBelow}
+use Rattle.arcstring_sides.specs.Sides.{zeroFloat, isZero, isAbove, isBelow}
 use Rattle.arcstring_pair.specs.Pair.{normal, meeting, sideFrom, sideTo, sideValues}
 use Rattle.arcstring_pair.specs.FiniteLaws.{EachAtMost, ExactlyOne, onlyFirst, onlySecond, onlyThird}
 
@@ -99,10 +99,10 @@ module _ (l : Leg) (h : LegInRange l) where
 -- ---- a finite float is zero, above zero or below zero
 
 abbrev OneOf : Float → Type 0
-OneOf x = ExactlyOne (grazes x) (isAbove x) (isBelow x)
+OneOf x = ExactlyOne (isZero x) (isAbove x) (isBelow x)
 
 zero-side : (x : Float) → value x ≡ vzero → OneOf x
-unfolding grazes isAbove isBelow
+unfolding isZero isAbove isBelow
 zero-side x p = rw (
   eq-value x zeroFloat zeroFloat zeroFloat p refl,
   lt-value zeroFloat zeroFloat x zeroFloat refl p,
@@ -119,14 +119,14 @@ module _ (m : ℕ) (e : ℤ) where
   above = mul-pos (mul-pos (omega arith) (up-pos e)) (omega arith)
 
   above-side : OneOf (fin false (suc m) e)
-  unfolding grazes isAbove isBelow eq lt
+  unfolding isZero isAbove isBelow eq lt
   above-side =
       let z = 0 * up (pos 0) * down e in
       let n = suc m * up e * down (pos 0) in
       rw (ne-eqb n z (λ p. omega (arith, naught, above, p)), lt-ltb z n (omega (arith, naught, above)), le-ltb n z (omega (arith, naught, above))) onlySecond
 
   below-side : OneOf (fin true (suc m) e)
-  unfolding grazes isAbove isBelow eq lt
+  unfolding isZero isAbove isBelow eq lt
   below-side =
       let z = 0 * up (pos 0) * down e in
       let n = suc m * up e * down (pos 0) in
@@ -159,5 +159,5 @@ module _ (a b : Leg) (h : LegInRange a) (k : LegInRange b) where
       among-four (AtMost 7) x (sideFrom-bound a h t meeting-finite) (sideTo-bound a h t meeting-finite) (sideFrom-bound b k t meeting-finite)
       (sideTo-bound b k t meeting-finite) m
 
-  pub side-trichotomy : (x : Float) → List·Memᴰ x (sideValues a b (meeting a b)) → ExactlyOne (grazes x) (isAbove x) (isBelow x)
+  pub side-trichotomy : (x : Float) → List·Memᴰ x (sideValues a b (meeting a b)) → ExactlyOne (isZero x) (isAbove x) (isBelow x)
   side-trichotomy x m = side-of x 7 (sides-finite x m)

@@ -8,7 +8,7 @@ use lib.Ieee.{Float}
 use Rattle.ieee754.specs.Bound.{AtMost}
 use Rattle.sphericalpoint.specs.declared.SphericalPoint.{SphericalPoint}
 use Rattle.arcstring.specs.Leg.{Leg, legCheck}
-use Rattle.arcstring_sides.specs.Sides.{grazes, isAbove, isBelow}
+use Rattle.arcstring_sides.specs.Sides.{isZero, isAbove, isBelow}
 use Rattle.arcstring_pair.specs.Pair.{meeting, sideValues}
 
 -- each coordinate is finite, and its size is at most 2 ^ k
@@ -28,7 +28,7 @@ pub record FinitePair (a b : Leg) : Type 0 where
   pub point-finite : EachAtMost 3 (meeting a b)
   -- the side values: at most 128
   pub sides-finite : (x : Float) → List·Memᴰ x (sideValues a b (meeting a b)) → AtMost 7 x
-  pub one-of-three : (x : Float) → List·Memᴰ x (sideValues a b (meeting a b)) → ExactlyOne (grazes x) (isAbove x) (isBelow x)
+  pub one-of-three : (x : Float) → List·Memᴰ x (sideValues a b (meeting a b)) → ExactlyOne (isZero x) (isAbove x) (isBelow x)
 
 -- Of every pair of legs that pass the pair call's check, as the legs of accepted strings do (`StringLegsAccepted` of PairLaws.antt).
 abbrev pub PairsFinite : Type 0

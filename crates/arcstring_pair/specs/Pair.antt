@@ -7,6 +7,7 @@ use lib.Ieee.{Float}
 use Rattle.sphericalpoint.specs.declared.SphericalPoint.{SphericalPoint}
 use Rattle.sphericalpoint.specs.Vector.{xyzCross, xyzDot, xyzNeg, xyzEq}
 use Rattle.arcstring_check.specs.Answer.{Answer, answered, unlessRefused, pick}
+use Rattle.arcstring_check.specs.Check.{noMargin}
 use Rattle.arcstring.specs.Leg.{Leg, legCheck}
 use Rattle.arcstring_sides.specs.Sides.{grazes, isAbove, isBelow, signNegative, signPositive, someSide, everySide}
 use Rattle.arcstring_pair.specs.declared.pair.Pair.{Pair}
@@ -44,7 +45,7 @@ atEnd p a b = xyzEq p (a .from) || xyzEq p (a .to) || xyzEq p (b .from) || xyzEq
 unfoldable pub keptOrDropped : SphericalPoint → Leg → Leg → Outcome
 keptOrDropped p a b = pick (atEnd p a b) (Dropped p) (Kept p)
 
--- by the signs of its zeros, as the Rust has it: where they differ it answers no point
+-- by its sign bits, those of zeros too, as the Rust has it: where they differ it answers no point. The margin has no part in it.
 unfoldable pub grazingOutcome : SphericalPoint → Leg → Leg → List Float → Outcome
 grazingOutcome t a b s = pick (everySide signPositive s) (keptOrDropped t a b) (pick (everySide signNegative s) (keptOrDropped (xyzNeg t) a b) None)
 
@@ -52,14 +53,14 @@ grazingOutcome t a b s = pick (everySide signPositive s) (keptOrDropped t a b) (
 unfoldable pub endOrClean : SphericalPoint → Leg → Leg → Pair
 endOrClean p a b = pick (atEnd p a b) (End p) (Clean p)
 
--- the four classes. t is not normalised before the end test.
-unfoldable pub classAt : SphericalPoint → Leg → Leg → List Float → Pair
-classAt t a b s =
-    pick (someSide grazes s) (Grazing (grazingOutcome t a b s))
+-- the four classes by the margin. t is not normalised before the end test.
+unfoldable pub classAt : Float → SphericalPoint → Leg → Leg → List Float → Pair
+classAt margin t a b s =
+    pick (someSide (grazes margin) s) (Grazing (grazingOutcome t a b s))
     (pick (everySide isAbove s) (endOrClean t a b) (pick (everySide isBelow s) (endOrClean (xyzNeg t) a b) Apart))
 
-unfoldable pub pairOf : Leg → Leg → Pair
-pairOf a b = classAt (meeting a b) a b (sideValues a b (meeting a b))
+unfoldable pub pairOf : Float → Leg → Leg → Pair
+pairOf margin a b = classAt margin (meeting a b) a b (sideValues a b (meeting a b))
 
 -- ---- a pair in the numbers and values of docs/TERMS.md
 
@@ -106,7 +107,7 @@ judged p = record { class = classNumber p; point = pairPoint p; kept = pairKept 
 abbrev pub keptPoint : Judged → Option SphericalPoint
 keptPoint j = pick (j .kept) (j .point) none
 
--- ---- the call
+-- ---- the call, which takes no margin
 
 unfoldable pub arcsCrossing : Leg → Leg → Answer Judged
-arcsCrossing a b = unlessRefused (legCheck a) (unlessRefused (legCheck b) (answered (judged (pairOf a b))))
+arcsCrossing a b = unlessRefused (legCheck a) (unlessRefused (legCheck b) (answered (judged (pairOf noMargin a b))))

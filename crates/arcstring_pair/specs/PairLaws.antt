@@ -1,20 +1,23 @@
 -- What is claimed of every pair of legs with coordinates from -1 to 1: its point is the one that the Rust's `arcs_crossing` answers, the listings keep what the
--- Rust's keep, and its class is the one that the words of docs/TERMS.md describe. Definitions only.
--- The proofs are `pair-call-in-words`, `pairs-in-words`, `string-legs-accepted` and `judged-apart` of `proofs/PairLaws.antt`.
+-- Rust's keep, and its class is the one that the words of docs/TERMS.md describe; and what another margin changes. Definitions only.
+-- The proofs are `pair-call-in-words`, `pairs-in-words`, `zero-margin-in-words`, `string-legs-accepted` and `judged-apart` of `proofs/PairLaws.antt`, and
+-- `point-stays`, `wider-margin` and `value-of-margin` of `proofs/MarginLaws.antt`.
 use mathlib.Core.Path.{_≡_}
-use mathlib.Core.Bool.{Bool, false, not, _&&_, _||_}
+use mathlib.Core.Logic.{_⊎_}
+use mathlib.Core.Bool.{Bool, true, false, not, _&&_, _||_}
 use mathlib.Core.List.{List, [], _∷_, List·Memᴰ}
 use mathlib.Core.Option.{Option, none, some}
 use lib.Dec.{eqb}
-use lib.Ieee.{Float}
+use lib.Ieee.{Float, le}
+use Rattle.ieee754.specs.Value.{value}
 use Rattle.sphericalpoint.specs.declared.SphericalPoint.{SphericalPoint}
 use Rattle.sphericalpoint.specs.Vector.{xyzCross, xyzDot, xyzNeg}
 use Rattle.arcstring_check.specs.Answer.{answered, pick}
 use Rattle.arcstring.specs.Points.{points}
-use Rattle.arcstring_check.specs.Check.{storedCheck}
+use Rattle.arcstring_check.specs.Check.{storedCheck, marginCheck}
 use Rattle.arcstring_pair.specs.declared.pair.Pair.{Pair}
 use Rattle.arcstring.specs.Leg.{Leg, legCheck, legs}
-use Rattle.arcstring_sides.specs.Sides.{grazes, isAbove, isBelow, signNegative, signPositive, someSide, everySide}
+use Rattle.arcstring_sides.specs.Sides.{grazes, isZero, isAbove, isBelow, signNegative, signPositive, someSide, everySide}
 use Rattle.arcstring_pair.specs.Pair.{meeting, sideValues, atEnd, pairOf}
 use Rattle.arcstring_pair.specs.Pair.{Judged, judged, keptPoint, arcsCrossing}
 
@@ -53,38 +56,63 @@ sides a b = sideValues a b (meeting a b)
 abbrev pub signsAgree : List Float → Bool
 signsAgree s = everySide isAbove s || everySide isBelow s
 
--- none is zero, and their signs differ: some are above zero and some below
+-- they differ: some are above zero and some below
 abbrev pub signsDiffer : List Float → Bool
-signsDiffer s = not (someSide grazes s) && (someSide isAbove s && someSide isBelow s)
+signsDiffer s = someSide isAbove s && someSide isBelow s
 
--- What is said of a pair of the legs a and b. The line of a class says that the pair is in it exactly where its words hold, so that no two classes can have
--- traded places.
-pub record InWords (a b : Leg) (j : Judged) : Type 0 where
+-- What is said of a pair of the legs a and b, where a side value grazes by the test `graze`. The line of a class says that the pair is in it exactly where
+-- its words hold, so that no two classes can have traded places. The point, and what the listings keep, are the Rust's whatever the test.
+pub record InWords (graze : Float → Bool) (a b : Leg) (j : Judged) : Type 0 where
   pub rusts-point : j .point ≡ rustCrossing a b
   pub rusts-kept : keptPoint j ≡ rustKept a b
-  -- clean: the signs agree, and the point is no end
-  pub clean-words : eqb (j .class) 1 ≡ signsAgree (sides a b) && not (answersEnd (rustCrossing a b) a b)
-  -- end: the signs agree, and the point is an end
-  pub end-words : eqb (j .class) 2 ≡ signsAgree (sides a b) && answersEnd (rustCrossing a b) a b
-  -- grazing: a side value is zero
-  pub grazing-words : eqb (j .class) 3 ≡ someSide grazes (sides a b)
-  -- apart: none is, and the signs differ
-  pub apart-words : eqb (j .class) 4 ≡ signsDiffer (sides a b)
+  -- grazing: a side value grazes
+  pub grazing-words : eqb (j .class) 3 ≡ someSide graze (sides a b)
+  -- if none does: apart, the signs differ
+  pub apart-words : eqb (j .class) 4 ≡ not (someSide graze (sides a b)) && signsDiffer (sides a b)
+  -- end: they agree, and the point is an end
+  pub end-words : eqb (j .class) 2 ≡ not (someSide graze (sides a b)) && (signsAgree (sides a b) && answersEnd (rustCrossing a b) a b)
+  -- clean: they agree, and it is none
+  pub clean-words : eqb (j .class) 1 ≡ not (someSide graze (sides a b)) && (signsAgree (sides a b) && not (answersEnd (rustCrossing a b) a b))
 
 -- ---- what is claimed
 
--- Whatever the pair call answers is so.
+-- Whatever the pair call, which takes no margin, answers is so: what grazes is a zero.
 abbrev pub PairCallInWords : Type 0
-PairCallInWords = (a b : Leg) (j : Judged) → arcsCrossing a b ≡ answered j → InWords a b j
+PairCallInWords = (a b : Leg) (j : Judged) → arcsCrossing a b ≡ answered j → InWords isZero a b j
 
--- So is every pair of legs that pass the pair call's check,
+-- So is every pair, at every margin that is not refused, of legs that pass the pair call's check: what grazes is at most the margin in size.
 abbrev pub PairsInWords : Type 0
-PairsInWords = (a b : Leg) → legCheck a ≡ 0 → legCheck b ≡ 0 → InWords a b (judged (pairOf a b))
+PairsInWords =
+    (margin : Float) → marginCheck margin ≡ 0 → (a b : Leg) → legCheck a ≡ 0 → legCheck b ≡ 0 → InWords (grazes margin) a b (judged (pairOf margin a b))
 
--- as those do that a listing or a count visits: a leg by itself gets this check from its call, and the legs of an accepted string pass it.
+-- And at a margin of zero, of either sign, what grazes is a zero: the pair is judged as the pair call judges it.
+abbrev pub ZeroMarginInWords : Type 0
+ZeroMarginInWords =
+    (margin : Float) → isZero margin ≡ true → (a b : Leg) → legCheck a ≡ 0 → legCheck b ≡ 0 → InWords isZero a b (judged (pairOf margin a b))
+
+-- Such are those that a listing or a count visits: a leg by itself gets this check from its call, and the legs of an accepted string pass it.
 abbrev pub StringLegsAccepted : Type 0
 StringLegsAccepted = (v : List Float) (closed : Bool) → storedCheck v ≡ 0 → (l : Leg) → List·Memᴰ l (legs (points v) closed) → legCheck l ≡ 0
 
 -- Nothing of a pair is lost where it is read in numbers and values: no two are judged alike.
 abbrev pub JudgedApart : Type 0
 JudgedApart = (p q : Pair) → judged p ≡ judged q → p ≡ q
+
+-- ---- what another margin changes, of any two legs
+
+-- the point stays, and whether the listings keep it
+pub record SamePoint (j k : Judged) : Type 0 where
+  pub same-point : j .point ≡ k .point
+  pub same-kept : j .kept ≡ k .kept
+
+abbrev pub PointStays : Type 0
+PointStays =
+    (m n : Float) → marginCheck m ≡ 0 → marginCheck n ≡ 0 → (a b : Leg) → SamePoint (judged (pairOf m a b)) (judged (pairOf n a b))
+
+-- By a wider margin a pair may become grazing; else it is what it was. So a grazing pair stays one.
+abbrev pub WiderMargin : Type 0
+WiderMargin = (m n : Float) → le m n ≡ true → (a b : Leg) → (judged (pairOf n a b) .class ≡ 3) ⊎ (pairOf n a b ≡ pairOf m a b)
+
+-- Margins of the same value, as 0 and -0, make no difference.
+abbrev pub ValueOfMargin : Type 0
+ValueOfMargin = (m n : Float) → value m ≡ value n → (a b : Leg) → pairOf m a b ≡ pairOf n a b

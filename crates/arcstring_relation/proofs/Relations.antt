@@ -8,7 +8,7 @@ use lib.Dec.{ltb}
 use lib.ListN.{length}
 use lib.Ieee.{Float}
 use Rattle.arcstring_check.specs.Answer.{Answer, answered, unlessRefused}
-use Rattle.arcstring_check.specs.Check.{storedCheck}
+use Rattle.arcstring_check.specs.Check.{storedCheck, noMargin}
 use Rattle.arcstring.specs.Points.{ArcString, points}
 use Rattle.arcstring.specs.Leg.{legs}
 use Rattle.arcstring_tally.specs.declared.inner.tally.Tally.{Tally}
@@ -32,10 +32,11 @@ module _ (a aNear : List Float) (aClosed : Bool) (b bNear : List Float) (bClosed
 
   -- x whether the vertices of the left are along the right, y whether those of the right are along the left
   crosses-by : (x y : Bool) → x ≡ allAlong (points a) right → y ≡ allAlong (points b) left
-      → crossesString left right ≡ not x && (not y && ltb 0 (length (keptMarks (visited a aClosed b bClosed))))
+      → crossesString left right ≡ not x && (not y && ltb 0 (length (keptMarks (visited noMargin a aClosed b bClosed))))
   unfolding crossesString withinString visited
   crosses-by x y hx hy =
-      ap₂ (λ (t u : Bool). not t && (not u && ltb 0 (length (keptMarks (pairsBetween (legs (points a) aClosed) (legs (points b) bClosed)))))) (sym hx) (sym hy)
+      ap₂ (λ (t u : Bool). not t && (not u && ltb 0 (length (keptMarks (pairsBetween noMargin (legs (points a) aClosed) (legs (points b) bClosed))))))
+      (sym hx) (sym hy)
 
   pub left-within : (x : Bool) → x ≡ allAlong (points a) right → x ≡ true → false ≡ crossesString left right
   left-within x hx e = sym (crosses-by true (allAlong (points b) left) (sym e ∙ hx) refl)
@@ -44,8 +45,8 @@ module _ (a aNear : List Float) (aClosed : Bool) (b bNear : List Float) (bClosed
   right-within x y hx e hy f = sym (crosses-by false true (sym e ∙ hx) (sym f ∙ hy))
 
   pub some-kept : (x y : Bool) (t : Tally) → x ≡ allAlong (points a) right → x ≡ false → y ≡ allAlong (points b) left → y ≡ false
-      → t ≡ tallyOn noTally (visited a aClosed b bClosed) → ltb 0 (t .kept) ≡ crossesString left right
-  some-kept x y t hx e hy f ht = ap (ltb 0) (tally-kept t (visited a aClosed b bClosed) ht) ∙ sym (crosses-by false false (sym e ∙ hx) (sym f ∙ hy))
+      → t ≡ tallyOn noTally (visited noMargin a aClosed b bClosed) → ltb 0 (t .kept) ≡ crossesString left right
+  some-kept x y t hx e hy f ht = ap (ltb 0) (tally-kept t (visited noMargin a aClosed b bClosed) ht) ∙ sym (crosses-by false false (sym e ∙ hx) (sym f ∙ hy))
 
 -- ---- `contains` is `within` with the strings traded
 

@@ -5,19 +5,19 @@ use lib.ListN.{length}
 use lib.Dec.{ltb}
 use lib.Ieee.{Float}
 use Rattle.arcstring_check.specs.Answer.{Answer, answered, unlessRefused}
-use Rattle.arcstring_check.specs.Check.{storedCheck}
+use Rattle.arcstring_check.specs.Check.{storedCheck, noMargin}
 use Rattle.arcstring.specs.Points.{ArcString, points}
 use Rattle.arcstring.specs.Leg.{legs}
 use Rattle.arcstring_tally.specs.Pairs.{pairsBetween, keptMarks}
 use Rattle.arcstring_along.specs.OnString.{stored}
 use Rattle.arcstring_against.specs.Against.{allAlong, equalStrings, withinString, twoStrings}
 
--- neither is within the other, and some pair of legs keeps a point
+-- neither is within the other, and some pair of legs keeps a point, with no margin
 unfoldable pub crossesString : ArcString → ArcString → Bool
 crossesString a b =
     not (withinString a b)
     && (not (withinString b a)
-    && ltb 0 (length (keptMarks (pairsBetween (legs (a .vertices) (a .closed)) (legs (b .vertices) (b .closed))))))
+    && ltb 0 (length (keptMarks (pairsBetween noMargin (legs (a .vertices) (a .closed)) (legs (b .vertices) (b .closed))))))
 
 -- ---- the calls
 

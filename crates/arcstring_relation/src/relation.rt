@@ -72,7 +72,7 @@ fn crosses_string(
     if inner::all_along(b, a, a_near, a_closed) {
         return false;
     }
-    let t = arcstring_listing::inner::tally_two(a, a_closed, b, b_closed);
+    let t = arcstring_listing::inner::tally_two(a, a_closed, b, b_closed, 0.0);
     t.kept > 0
 }
 

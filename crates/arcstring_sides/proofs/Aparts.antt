@@ -1,14 +1,18 @@
--- What tests of the four side values say together: which rule each other out, that the greatest or the least is one of them, and what shows that a pair is
--- apart. Assumes nothing.
-use mathlib.Core.Path.{_≡_, refl, sym, ap, ap₂, _∙_}
+-- What tests of the four side values say together: which rule each other out, what the least of their squares and of their products tells, and what shows that
+-- a pair is apart. Assumes nothing.
+use mathlib.Core.Path.{_≡_, refl, sym, ap, subst, _∙_}
+use mathlib.Core.Logic.{_⊎_, inl, inr}
 use mathlib.Core.Bool.{Bool, true, false, not, _&&_, _||_, cond}
 use mathlib.Core.List.{List, [], _∷_}
 use native.Mathlib.Omega.{arith}
+use lib.Dec.{T}
 use lib.ListN.{length, getD}
-use lib.Ieee.{Float, nan, inf, fin, ofBits}
-use Rattle.ieee754.proofs.Tests.{never}
-use Rattle.arcstring_sides.specs.Sides.{grazes, isAbove, isBelow, signNegative, signPositive, someSide, everySide, showsApart}
+use lib.Ieee.{Float, nan, inf, fin, binary64, mul, lt, ofBits}
+use Rattle.ieee754.proofs.Tests.{never, and-first, and-second}
+use Rattle.ieee754.proofs.Products.{product-below}
+use Rattle.arcstring_sides.specs.Sides.{zeroFloat, grazes, isZero, isAbove, isBelow, signNegative, signPositive, someSide, everySide, showsApart}
 use Rattle.arcstring_sides.proofs.Signs.{positive-of-other, negative-of-other, above-is-no-zero, below-is-no-zero}
+use Rattle.arcstring_sides.proofs.Margins.{holds, true-of, both-clear, clear-not-grazing}
 
 -- ---- any tests of the side values: one that rules out another
 
@@ -26,7 +30,8 @@ module _ (f g : Float → Bool) (rules-out : (x : Float) → f x ≡ true → g 
       go true e k rest = rw (rules-out x e)
       go false e k rest = step (g x) (rest k)
 
--- the greatest or the least of four, whichever is picked, is one of them
+-- ---- four values
+
 some-at : (f : Float → Bool) (x : Float) (s : List Float) → f x ≡ true → someSide f (x ∷ s) ≡ true
 unfolding someSide
 some-at f x s h = rw h
@@ -39,34 +44,28 @@ some-after f x s h = go (f x)
     go true = refl
     go false = h
 
-picked-of-four : (f : Float → Bool) (a b c : Bool) (s0 s1 s2 s3 : Float) → f (cond c (cond a s0 s1) (cond b s2 s3)) ≡ true
-    → someSide f (s0 ∷ s1 ∷ s2 ∷ s3 ∷ []) ≡ true
-picked-of-four f true b true s0 s1 s2 s3 h = some-at f s0 _ h
-picked-of-four f false b true s0 s1 s2 s3 h = some-after f s0 _ (some-at f s1 _ h)
-picked-of-four f a true false s0 s1 s2 s3 h = some-after f s0 _ (some-after f s1 _ (some-at f s2 _ h))
-picked-of-four f a false false s0 s1 s2 s3 h = some-after f s0 _ (some-after f s1 _ (some-after f s2 _ (some-at f s3 _ h)))
+none-of-four : (f : Float → Bool) (a b c d : Float) → f a ≡ false → f b ≡ false → f c ≡ false → f d ≡ false → someSide f (a ∷ b ∷ c ∷ d ∷ []) ≡ false
+unfolding someSide
+none-of-four f a b c d h i j k = rw (h, i, j, k)
 
--- as the code picks it, of four side values in a list
-module _ (f : Float → Bool) (by : Float → Float → Bool) where
-  pub picked-is-one : (s : List Float) → length s ≡ 4 → {u v g : Float} → u ≡ cond (by (getD s 0 nan) (getD s 1 nan)) (getD s 0 nan) (getD s 1 nan)
-      → v ≡ cond (by (getD s 2 nan) (getD s 3 nan)) (getD s 2 nan) (getD s 3 nan) → g ≡ cond (by u v) u v → f g ≡ true → someSide f s ≡ true
-  picked-is-one [] l hu hv hg h = absurd (omega arith)
-  picked-is-one (a ∷ []) l hu hv hg h = absurd (omega arith)
-  picked-is-one (a ∷ b ∷ []) l hu hv hg h = absurd (omega arith)
-  picked-is-one (a ∷ b ∷ c ∷ []) l hu hv hg h = absurd (omega arith)
-  picked-is-one (a ∷ b ∷ c ∷ d ∷ []) l {u} {v} hu hv hg h =
-      picked-of-four f (by a b) (by c d) (by u v) a b c d (ap f (sym (hg ∙ ap₂ (cond (by u v)) hu hv)) ∙ h)
-  picked-is-one (a ∷ b ∷ c ∷ d ∷ e ∷ s) l hu hv hg h = absurd (omega arith)
+-- four side values in a list
+four-values : (s : List Float) → length s ≡ 4 → s ≡ getD s 0 nan ∷ getD s 1 nan ∷ getD s 2 nan ∷ getD s 3 nan ∷ []
+four-values [] l = absurd (omega arith)
+four-values (a ∷ []) l = absurd (omega arith)
+four-values (a ∷ b ∷ []) l = absurd (omega arith)
+four-values (a ∷ b ∷ c ∷ []) l = absurd (omega arith)
+four-values (a ∷ b ∷ c ∷ d ∷ []) l = refl
+four-values (a ∷ b ∷ c ∷ d ∷ e ∷ s) l = absurd (omega arith)
 
 -- ---- the tests with zero
 
-above-not-grazing : (x : Float) → isAbove x ≡ true → grazes x ≡ false
-unfolding isAbove grazes ofBits
-above-not-grazing x h = above-is-no-zero x h
+above-not-zero : (x : Float) → isAbove x ≡ true → isZero x ≡ false
+unfolding isAbove isZero ofBits
+above-not-zero x h = above-is-no-zero x h
 
-below-not-grazing : (x : Float) → isBelow x ≡ true → grazes x ≡ false
-unfolding isBelow grazes ofBits
-below-not-grazing x h = below-is-no-zero x h
+below-not-zero : (x : Float) → isBelow x ≡ true → isZero x ≡ false
+unfolding isBelow isZero ofBits
+below-not-zero x h = below-is-no-zero x h
 
 one-sign : (x : Float) → signPositive x ≡ true → signNegative x ≡ false
 unfolding signPositive signNegative
@@ -85,15 +84,15 @@ other-sign (fin true m e) h = refl
 other-sign (fin false m e) h = never h
 
 pub above-not-below : (x : Float) → isAbove x ≡ true → isBelow x ≡ false
-unfolding isAbove isBelow grazes ofBits
+unfolding isAbove isBelow isZero ofBits
 above-not-below x h =
-    let z = above-not-grazing x h in
+    let z = above-not-zero x h in
     negative-of-other x z ∙ one-sign x (sym (positive-of-other x z) ∙ h)
 
 pub below-not-above : (x : Float) → isBelow x ≡ true → isAbove x ≡ false
-unfolding isAbove isBelow grazes ofBits
+unfolding isAbove isBelow isZero ofBits
 below-not-above x h =
-    let z = below-not-grazing x h in
+    let z = below-not-zero x h in
     positive-of-other x z ∙ other-sign x (sym (negative-of-other x z) ∙ h)
 
 -- ---- what is tested
@@ -104,8 +103,71 @@ all-three false true false h = never h
 all-three false false c h = never h
 all-three true b c h = never h
 
--- what is tested tells the three
-pub all-tested : (g a b : Bool) (s : List Float) → g ≡ someSide grazes s → (a ≡ true → someSide isAbove s ≡ true) → (b ≡ true → someSide isBelow s ≡ true)
-    → ((not g && a) && b) ≡ true → showsApart s ≡ true
-unfolding showsApart
-all-tested g a b s hg ha hb h = let k = all-three g a b h in rw (sym hg ∙ k .0, ha (k .1), hb (k .2))
+-- the least square of four, as the code picks it, is above the margin's: none grazes
+pub squares-clear : (s : List Float) → length s ≡ 4 → {last rest least : Float} → (margin : Float)
+    → last ≡ cond (lt (mul binary64 (getD s 2 nan) (getD s 2 nan)) (mul binary64 (getD s 3 nan) (getD s 3 nan)))
+    (mul binary64 (getD s 2 nan) (getD s 2 nan)) (mul binary64 (getD s 3 nan) (getD s 3 nan))
+    → rest ≡ cond (lt (mul binary64 (getD s 1 nan) (getD s 1 nan)) last) (mul binary64 (getD s 1 nan) (getD s 1 nan)) last
+    → least ≡ cond (lt (mul binary64 (getD s 0 nan) (getD s 0 nan)) rest) (mul binary64 (getD s 0 nan) (getD s 0 nan)) rest
+    → lt (mul binary64 margin margin) least ≡ true → someSide (grazes margin) s ≡ false
+squares-clear s l margin hlast hrest hleast h =
+    let w = mul binary64 margin margin in
+    let first = both-clear margin _ _ (ap (lt w) (sym hleast) ∙ h) in
+    let second = both-clear margin _ _ (ap (lt w) (sym hrest) ∙ first .1) in
+    let third = both-clear margin _ _ (ap (lt w) (sym hlast) ∙ second .1) in
+    ap (someSide (grazes margin)) (four-values s l)
+    ∙ none-of-four (grazes margin) _ _ _ _ (clear-not-grazing margin _ (first .0)) (clear-not-grazing margin _ (second .0))
+    (clear-not-grazing margin _ (third .0)) (clear-not-grazing margin _ (λ n. holds (third .1)))
+
+-- a product of two of the four that is below zero: one of them is above zero and one below
+abbrev BothSigns : List Float → Type 0
+BothSigns s = (someSide isAbove s ≡ true) × (someSide isBelow s ≡ true)
+
+signs-of : (x y : Float) (s : List Float) → ((f : Float → Bool) → f x ≡ true → someSide f s ≡ true) → ((f : Float → Bool) → f y ≡ true → someSide f s ≡ true)
+    → isBelow (mul binary64 x y) ≡ true → BothSigns s
+unfolding isAbove isBelow
+signs-of x y s at-x at-y h = go (product-below binary64 x y (holds h))
+  where
+    go : (T (lt zeroFloat x) × T (lt y zeroFloat)) ⊎ (T (lt x zeroFloat) × T (lt zeroFloat y)) → BothSigns s
+    go (inl k) = (at-x isAbove (true-of _ (k .0)), at-y isBelow (true-of _ (k .1)))
+    go (inr k) = (at-y isAbove (true-of _ (k .1)), at-x isBelow (true-of _ (k .0)))
+
+-- whichever of two is picked
+either : (c : Bool) (x y : Float) {A : Type 0} → isBelow (cond c x y) ≡ true → (isBelow x ≡ true → A) → (isBelow y ≡ true → A) → A
+either true x y h f g = f h
+either false x y h f g = g h
+
+module _ (a b c d : Float) where
+  with-second : isBelow (mul binary64 a b) ≡ true → BothSigns (a ∷ b ∷ c ∷ d ∷ [])
+  with-second = signs-of a b _ (λ f k. some-at f a _ k) (λ f k. some-after f a _ (some-at f b _ k))
+
+  with-third : isBelow (mul binary64 a c) ≡ true → BothSigns (a ∷ b ∷ c ∷ d ∷ [])
+  with-third = signs-of a c _ (λ f k. some-at f a _ k) (λ f k. some-after f a _ (some-after f b _ (some-at f c _ k)))
+
+  with-last : isBelow (mul binary64 a d) ≡ true → BothSigns (a ∷ b ∷ c ∷ d ∷ [])
+  with-last = signs-of a d _ (λ f k. some-at f a _ k) (λ f k. some-after f a _ (some-after f b _ (some-after f c _ (some-at f d [] k))))
+
+pub products-differ : (s : List Float) → length s ≡ 4 → {rest least : Float}
+    → rest ≡ cond (lt (mul binary64 (getD s 0 nan) (getD s 2 nan)) (mul binary64 (getD s 0 nan) (getD s 3 nan)))
+    (mul binary64 (getD s 0 nan) (getD s 2 nan)) (mul binary64 (getD s 0 nan) (getD s 3 nan))
+    → least ≡ cond (lt (mul binary64 (getD s 0 nan) (getD s 1 nan)) rest) (mul binary64 (getD s 0 nan) (getD s 1 nan)) rest
+    → isBelow least ≡ true → BothSigns s
+products-differ s l {rest} hrest hleast h =
+    let a = getD s 0 nan in
+    let b = getD s 1 nan in
+    let c = getD s 2 nan in
+    let d = getD s 3 nan in
+    let later : isBelow rest ≡ true → BothSigns (a ∷ b ∷ c ∷ d ∷ []) = λ k. either (lt (mul binary64 a c) (mul binary64 a d)) (mul binary64 a c)
+    (mul binary64 a d)
+    (ap isBelow (sym hrest) ∙ k) (with-third a b c d) (with-last a b c d) in
+    subst BothSigns (sym (four-values s l))
+    (either (lt (mul binary64 a b) rest) (mul binary64 a b) rest (ap isBelow (sym hleast) ∙ h) (with-second a b c d) later)
+
+-- both tests tell the three
+pub both-tested : (margin least product : Float) (s : List Float) → ((m : Float) → lt (mul binary64 m m) least ≡ true → someSide (grazes m) s ≡ false)
+    → (isBelow product ≡ true → BothSigns s) → lt (mul binary64 margin margin) least && lt product zeroFloat ≡ true → showsApart margin s ≡ true
+unfolding showsApart isBelow
+both-tested margin least product s clear signs h =
+    let a = lt (mul binary64 margin margin) least in
+    let k = signs (and-second a (lt product zeroFloat) h) in
+    rw (clear margin (and-first a (lt product zeroFloat) h), k .0, k .1)

@@ -2,14 +2,19 @@
 use mathlib.Core.Bool.{Bool, true, false, not, _&&_, _||_}
 use mathlib.Core.List.{List, [], _∷_}
 use lib.IntN.{pos}
-use lib.Ieee.{Float, nan, inf, fin, lt, eq}
+use lib.Ieee.{Float, nan, inf, fin, lt, eq, le}
+use Rattle.ieee754.specs.Size.{abs}
 
 abbrev pub zeroFloat : Float
 zeroFloat = fin false 0 (pos 0)
 
--- a side value grazes: it is zero
-unfoldable pub grazes : Float → Bool
-grazes x = eq x zeroFloat
+-- a side value grazes: its size is at most the margin
+unfoldable pub grazes : Float → Float → Bool
+grazes margin x = le (abs x) margin
+
+-- zero, of either sign
+unfoldable pub isZero : Float → Bool
+isZero x = eq x zeroFloat
 
 unfoldable pub isAbove : Float → Bool
 isAbove x = lt zeroFloat x
@@ -37,5 +42,5 @@ everySide t [] = true
 everySide t (s ∷ l) = t s && everySide t l
 
 -- the side values show that a pair is apart: none grazes, some is above zero and some below
-unfoldable pub showsApart : List Float → Bool
-showsApart s = not (someSide grazes s) && someSide isAbove s && someSide isBelow s
+unfoldable pub showsApart : Float → List Float → Bool
+showsApart margin s = not (someSide (grazes margin) s) && someSide isAbove s && someSide isBelow s

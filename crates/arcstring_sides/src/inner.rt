@@ -1,14 +1,14 @@
 // The tests of four side values: whether one grazes, whether all are above zero or below it, their signs, and the pass's test that a pair is apart.
 ghost use mathlib.Core.Path.{_≡_};
-ghost use mathlib.Core.Bool.{true, cond};
-ghost use lib.Ieee.{lt};
+ghost use mathlib.Core.Bool.{true, false, cond};
+ghost use lib.Ieee.{Float, binary64, mul, lt};
 ghost use Rattle.arcstring_sides.specs.Sides.{showsApart, grazes, isAbove, isBelow, signNegative, signPositive, someSide, everySide};
 
-// Whether a side value grazes: it is zero.
-fn is_grazing(x: f64) -> bool
-    ensures { λ r. ⌜ r ≡ grazes x ⌝ }
+// Whether a side value grazes: its size is at most the margin.
+fn is_grazing(x: f64, margin: f64) -> bool
+    ensures { λ r. ⌜ r ≡ grazes margin x ⌝ }
 {
-    x == 0.0
+    float_sizes::inner::magnitude(x) <= margin
 }
 
 // Whether the sign bit is set, of a zero too: one over a zero is the infinity of its sign.
@@ -31,10 +31,13 @@ fn is_sign_positive(x: f64) -> bool
     x > 0.0
 }
 
-pub fn some_grazing(s: [f64; 4]) -> bool
-    ensures { λ r. ⌜ r ≡ someSide grazes s ⌝ }
+pub fn some_grazing(s: [f64; 4], margin: f64) -> bool
+    ensures { λ r. ⌜ r ≡ someSide (grazes margin) s ⌝ }
 {
-    is_grazing(s[0]) | is_grazing(s[1]) | is_grazing(s[2]) | is_grazing(s[3])
+    is_grazing(s[0], margin)
+        | is_grazing(s[1], margin)
+        | is_grazing(s[2], margin)
+        | is_grazing(s[3], margin)
 }
 
 pub fn all_above(s: [f64; 4]) -> bool
@@ -67,36 +70,33 @@ pub fn all_sign_negative(s: [f64; 4]) -> bool
         & is_sign_negative(s[3])
 }
 
-// The greater of two floats, with no branch.
-fn greater(x: f64, y: f64) -> f64
-    ensures { λ r. ⌜ r ≡ cond (lt y x) x y ⌝ }
-{
-    if x > y { x } else { y }
-}
-
-// The smaller of two floats, with no branch.
+// The smaller of two floats, with no branch; the second where either is a NaN.
 fn smaller(x: f64, y: f64) -> f64
     ensures { λ r. ⌜ r ≡ cond (lt x y) x y ⌝ }
 {
     if x < y { x } else { y }
 }
 
-fn some_above(s: [f64; 4]) -> bool
-    ensures { λ r. ⌜ (r ≡ true → someSide isAbove s ≡ true) ⌝ }
+// The least of the side values' squares. Above the margin's square none grazes.
+fn least_square(s: [f64; 4]) -> f64
+    ensures { λ r. ⌜ ((margin : Float) → lt (mul binary64 margin margin) r ≡ true → someSide (grazes margin) s ≡ false) ⌝ }
 {
-    greater(greater(s[0], s[1]), greater(s[2], s[3])) > 0.0
+    let last = smaller(s[2] * s[2], s[3] * s[3]);
+    smaller(s[0] * s[0], smaller(s[1] * s[1], last))
 }
 
-fn some_below(s: [f64; 4]) -> bool
-    ensures { λ r. ⌜ (r ≡ true → someSide isBelow s ≡ true) ⌝ }
+// The least of the products of the first side value with the others. Below zero, some is above zero and some below.
+fn least_product(s: [f64; 4]) -> f64
+    ensures { λ r. ⌜ (isBelow r ≡ true → (someSide isAbove s ≡ true) × (someSide isBelow s ≡ true)) ⌝ }
 {
-    smaller(smaller(s[0], s[1]), smaller(s[2], s[3])) < 0.0
+    smaller(s[0] * s[1], smaller(s[0] * s[2], s[0] * s[3]))
 }
 
 // Whether the four side values show that a pair is apart: none grazes, some is above zero and some below. With no
-// branch, for a pass over many pairs. It may miss such a pair, which is then tested as any other.
-pub fn shows_apart(s: [f64; 4]) -> bool
-    ensures { λ r. ⌜ (r ≡ true → showsApart s ≡ true) ⌝ }
+// branch, for a pass over many pairs. It may miss such a pair, where a square or a product vanishes, which is then tested
+// as any other.
+pub fn shows_apart(s: [f64; 4], margin: f64) -> bool
+    ensures { λ r. ⌜ (r ≡ true → showsApart margin s ≡ true) ⌝ }
 {
-    !some_grazing(s) & some_above(s) & some_below(s)
+    (least_square(s) > margin * margin) & (least_product(s) < 0.0)
 }

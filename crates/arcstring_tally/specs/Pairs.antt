@@ -4,6 +4,7 @@ use mathlib.Core.Option.{Option, none, some}
 use Prim.Native.Nat.{ℕ, _+_}
 use lib.ListN.{drop}
 use lib.Dec.{eqb}
+use lib.Ieee.{Float}
 use Rattle.sphericalpoint.specs.declared.SphericalPoint.{SphericalPoint}
 use Rattle.arcstring_check.specs.Answer.{pick, flagNumber}
 use Rattle.arcstring.specs.Leg.{Leg}
@@ -11,17 +12,17 @@ use Rattle.arcstring_pair.specs.declared.pair.Pair.{Pair}
 use Rattle.arcstring_pair.specs.Pair.{pairOf, classNumber, judged, keptPoint}
 use Rattle.arcstring_tally.specs.declared.counts.Counts.{Counts}
 
--- ---- the visited pairs, in the sequence in which they are visited
+-- ---- the visited pairs at a margin, in the sequence in which they are visited
 
 -- every leg of the first with every leg of the second, leg by leg of the first
-unfoldable pub pairsBetween : List Leg → List Leg → List Pair
-pairsBetween [] bs = []
-pairsBetween (a ∷ ls) bs = map (pairOf a) bs ++ pairsBetween ls bs
+unfoldable pub pairsBetween : Float → List Leg → List Leg → List Pair
+pairsBetween margin [] bs = []
+pairsBetween margin (a ∷ ls) bs = map (pairOf margin a) bs ++ pairsBetween margin ls bs
 
 -- each leg with every leg after the next one
-unfoldable pub pairsWithin : List Leg → List Pair
-pairsWithin [] = []
-pairsWithin (a ∷ ls) = map (pairOf a) (drop 1 ls) ++ pairsWithin ls
+unfoldable pub pairsWithin : Float → List Leg → List Pair
+pairsWithin margin [] = []
+pairsWithin margin (a ∷ ls) = map (pairOf margin a) (drop 1 ls) ++ pairsWithin margin ls
 
 -- ---- the four counts: of the visited pairs, those of each class
 

@@ -83,52 +83,52 @@ module _ (write : Bool) (ps : List Pair) (t u : Tally) (m : ℕ) (h : u ≡ tall
 
 -- ---- a row
 
-module _ (a : Leg) (v : List Float) (n : ℕ) where
+module _ (margin : Float) (a : Leg) (v : List Float) (n : ℕ) where
   abbrev pairAt : ℕ → Pair
-  pairAt k = pairOf a (legAt v n k)
+  pairAt k = pairOf margin a (legAt v n k)
 
   -- one flagged pair more
   pub found-next : (flagged : List ℕ) (k j m : ℕ) (p : Pair) → j < m → m ≤ length flagged → k ≡ getD flagged j 0 → p ≡ pairAt k
-      → foundPairs a v n flagged j m ≡ (p ∷ []) ++ foundPairs a v n flagged (j + 1) m
+      → foundPairs margin a v n flagged j m ≡ (p ∷ []) ++ foundPairs margin a v n flagged (j + 1) m
   unfolding foundPairs
   found-next flagged k j m p h l hk hp =
       let e : m - j ≡ suc (m - suc j) = omega arith in
       rw (add-one, e, drop-cons flagged j 0 (omega arith), ← hk, ← hp)
 
-  pub found-none : (flagged : List ℕ) (j m : ℕ) → m ≤ j → foundPairs a v n flagged j m ≡ []
+  pub found-none : (flagged : List ℕ) (j m : ℕ) → m ≤ j → foundPairs margin a v n flagged j m ≡ []
   unfolding foundPairs
   found-none flagged j m h = let e : m - j ≡ 0 = omega arith in rw e
 
-  pub found-few : (flagged : List ℕ) (m : ℕ) → m ≤ length flagged → length (foundPairs a v n flagged 0 m) ≤ m
+  pub found-few : (flagged : List ℕ) (m : ℕ) → m ≤ length flagged → length (foundPairs margin a v n flagged 0 m) ≤ m
   unfolding foundPairs
   found-few flagged m h = omega (arith, length-map (take (m - 0) flagged) pairAt, length-take-le (m - 0) flagged (omega arith))
 
   module _ (whole : length v ≡ 3 * n) (plane : Plane) (known : plane ≡ planeOf a) (planes : List Float) (w from to : ℕ) (short : to ≤ n)
-      (kept : PlanesOf v n to planes w) (flags : List ℕ) (told : FlagsOf plane planes w from to flags) where
+      (kept : PlanesOf v n to planes w) (flags : List ℕ) (told : FlagsOf margin plane planes w from to flags) where
     record Row (c k : ℕ) : Type 0 where
       left : ℕ
       sum : length (flaggedFrom flags k c) + left ≡ c
-      sifted : Sifted (rowPairs a v k to) (map pairAt (flaggedFrom flags k c)) left
+      sifted : Sifted (rowPairs margin a v k to) (map pairAt (flaggedFrom flags k c)) left
 
     step : (c k : ℕ) (b : Bool) → eqb (getD flags k 0) 0 ≡ b → k < to → from ≤ k → Row c (k + 1) → Row (suc c) k
     unfolding flaggedFrom
     step c k true e l h r =
         let q : flaggedFrom flags k (suc c) ≡ flaggedFrom flags (k + 1) c = rw e in
         let x = legAt v n k in
-        let row = row-next v n whole a x Apart k to l short refl (told .each k h l a x known (kept .each k l) (eqb-true (getD flags k 0) 0 e)) in
+        let row = row-next margin v n whole a x Apart k to l short refl (told .each k h l a x known (kept .each k l) (eqb-true (getD flags k 0) 0 e)) in
         record { left = suc (r .left); sum = omega (arith, ap length q, r .sum); sifted = rw (row, q) (leftOut (r .sifted)) }
     step c k false e l h r =
         let q : flaggedFrom flags k (suc c) ≡ k ∷ flaggedFrom flags (k + 1) c = rw e in
-        let row = row-next v n whole a (legAt v n k) (pairAt k) k to l short refl refl in
+        let row = row-next margin v n whole a (legAt v n k) (pairAt k) k to l short refl refl in
         record { left = r .left; sum = omega (arith, ap length q, r .sum); sifted = rw (row, q) (tested (pairAt k) (r .sifted)) }
 
     sifts : (c k : ℕ) → to - k ≡ c → from ≤ k → Row c k
     unfolding flaggedFrom
-    sifts zero k e h = record { left = 0; sum = refl; sifted = rw (row-none a v k to (omega arith)) none }
+    sifts zero k e h = record { left = 0; sum = refl; sifted = rw (row-none margin a v k to (omega arith)) none }
     sifts (suc c) k e h = step c k (eqb (getD flags k 0) 0) refl (omega arith) h (sifts c (k + 1) (omega arith) (omega arith))
 
     pub row-sifted : (flagged : List ℕ) (m : ℕ) → take m flagged ≡ flaggedFrom flags from (to - from) → m ≤ length flagged
-        → Sifted (rowPairs a v from to) (foundPairs a v n flagged 0 m) (to - from - m)
+        → Sifted (rowPairs margin a v from to) (foundPairs margin a v n flagged 0 m) (to - from - m)
     unfolding foundPairs
     row-sifted flagged m e fits =
         let r = sifts (to - from) from refl (omega arith) in

@@ -67,16 +67,17 @@ no-room-asked write ps at points marks h = record { fits = λ o. absurd (let z :
 
 -- ---- a row whose pairs are all apart
 
-module _ (a : Leg) (v : List Float) (n : ℕ) (whole : length v ≡ 3 * n) (plane : Plane) (known : plane ≡ planeOf a) (planes : List Float) (w from to : ℕ)
-    (short : to ≤ n) (kept : PlanesOf v n to planes w) (apart : AllApart plane planes w from to) where
-  rest-apart : (m k : ℕ) → to - k ≡ m → from ≤ k → rowPairs a v k to ≡ replicate m Apart
-  rest-apart zero k e h = row-none a v k to (omega arith)
+module _ (margin : Float) (a : Leg) (v : List Float) (n : ℕ) (whole : length v ≡ 3 * n) (plane : Plane) (known : plane ≡ planeOf a) (planes : List Float)
+    (w from to : ℕ)
+    (short : to ≤ n) (kept : PlanesOf v n to planes w) (apart : AllApart margin plane planes w from to) where
+  rest-apart : (m k : ℕ) → to - k ≡ m → from ≤ k → rowPairs margin a v k to ≡ replicate m Apart
+  rest-apart zero k e h = row-none margin a v k to (omega arith)
   rest-apart (suc m) k e h =
       let l : k < to = omega arith in
-      row-next v n whole a (legAt v n k) Apart k to l short refl (apart .each k h l a (legAt v n k) known (kept .each k l))
+      row-next margin v n whole a (legAt v n k) Apart k to l short refl (apart .each k h l a (legAt v n k) known (kept .each k l))
       ∙ ap (λ (ps : List Pair). (Apart ∷ []) ++ ps) (rest-apart m (k + 1) (omega arith) (omega arith))
 
-  pub row-apart : rowPairs a v from to ≡ replicate (to - from) Apart
+  pub row-apart : rowPairs margin a v from to ≡ replicate (to - from) Apart
   row-apart = rest-apart (to - from) from refl (omega arith)
 
 pub aparts-written : (write : Bool) (ps : List Pair) (m : ℕ) (at : ℕ) (points : List Float) (marks : List ℕ) → ps ≡ replicate m Apart

@@ -29,7 +29,14 @@ pub(crate) fn pair(a: &[f64], b: &[f64]) {
 
 pub(crate) fn count(q: Request, a: &[f64], b: &[f64]) {
     let mut counts = [COUNT; 4];
-    let n = arcstring_c::listing::arcstring_count(a, q.first_flag, b, q.second_flag, &mut counts);
+    let n = arcstring_c::listing::arcstring_count(
+        a,
+        q.first_flag,
+        b,
+        q.second_flag,
+        q.margin,
+        &mut counts,
+    );
     print::print_returned(n);
     print::print_counts(&counts);
 }
@@ -50,6 +57,7 @@ fn leg_crossings(q: Request, a: &[f64], b: &[f64], points: &mut [f64], marks: &m
         &leg,
         b,
         q.second_flag,
+        q.margin,
         points,
         marks,
         &mut kept,
@@ -66,6 +74,7 @@ fn crossings(q: Request, a: &[f64], b: &[f64], points: &mut [f64], marks: &mut [
         q.first_flag,
         b,
         q.second_flag,
+        q.margin,
         points,
         marks,
         &mut kept,
@@ -74,11 +83,12 @@ fn crossings(q: Request, a: &[f64], b: &[f64], points: &mut [f64], marks: &mut [
     print_listing(n, points, marks, kept, &counts);
 }
 
-fn crossings_with_self(a: &[f64], points: &mut [f64], marks: &mut [u8]) {
+fn crossings_with_self(q: Request, a: &[f64], points: &mut [f64], marks: &mut [u8]) {
     let mut kept = NUMBER;
     let mut counts = [COUNT; 4];
     let n = arcstring_c::with_self::arcstring_crossings_with_self(
         a,
+        q.margin,
         points,
         marks,
         &mut kept,
@@ -93,7 +103,7 @@ fn list(q: Request, a: &[f64], b: &[f64], points: &mut [f64], marks: &mut [u8]) 
     match call {
         9 => return leg_crossings(q, a, b, points, marks),
         10 => return crossings(q, a, b, points, marks),
-        _ => return crossings_with_self(a, points, marks),
+        _ => return crossings_with_self(q, a, points, marks),
     }
 }
 

@@ -3,11 +3,11 @@
 // stored answers, which are the published Rust's (docs/DIFFERENCES.md says how both lists were made). The program ends with the
 // input, and at a request that is cut short, has a word that is no number, asks for an unknown call or passes a bound.
 //
-// A word is 16 upper-case hexadecimal digits. A request is a label of 48 bytes, then words, each with one byte after it (a blank, or the
-// line feed): the call's number; the two strings' flags; two positions; the lengths of the buffers of floats, of bytes, of numbers and of
-// buoys; four lists of floats (the first string's vertices and near list, the second's) and two of buoys (the first string's, and those
-// of the extra points), each as its length, how many elements are given, and these: the list repeats them to its length. Points and legs
-// by themselves stand in the first list, extra points in the third.
+// A word is 16 upper-case hexadecimal digits. A request is a label of 48 bytes, then words, each with one byte after it (a blank, or the line feed): the
+// call's number; the two strings' flags; two positions; the lengths of the buffers of floats, of bytes, of numbers and of buoys; the margin's bits, which the
+// calls that take none leave; four lists of floats (the first string's vertices and near list, the second's) and two of buoys (the first string's, and those
+// of the extra points), each as its length, how many elements are given, and these: the list repeats them to its length. Points and legs by themselves stand
+// in the first list, extra points in the third.
 //
 // An answer is the label, then words with a blank before each: the number returned, every float, every buoy, every byte and every number
 // that was lent, single places before a buffer.

@@ -17,7 +17,8 @@ enum Small {
     None,
 }
 
-// The words before the lists: the call, two flags, two positions, and the rooms of the floats, bytes, numbers and buoys lent.
+// The words before the lists: the call, two flags, two positions, the rooms of the floats, bytes, numbers and buoys lent,
+// and the margin.
 pub(crate) struct Request {
     pub(crate) call: u8,
     pub(crate) first_flag: u8,
@@ -28,6 +29,7 @@ pub(crate) struct Request {
     pub(crate) bytes: u8,
     pub(crate) numbers: u8,
     pub(crate) buoys: u8,
+    pub(crate) margin: f64,
 }
 
 // A request, unless its words are not there whole or its call is unknown.
@@ -119,6 +121,9 @@ pub(crate) fn read_request() -> Asked {
     let Small::Value(buoys) = read_small() else {
         return Asked::None;
     };
+    let Word::Value(margin) = read_word() else {
+        return Asked::None;
+    };
     if call > 27 {
         return Asked::None;
     }
@@ -132,6 +137,7 @@ pub(crate) fn read_request() -> Asked {
         bytes,
         numbers,
         buoys,
+        margin: float_of(margin),
     })
 }
 

@@ -6,6 +6,7 @@ use Prim.Native.Nat.{ℕ, suc, _+_, _-_}
 use native.Mathlib.Omega.{arith}
 use lib.ListN.{length, getD, take, length-append}
 use lib.Seq.{take-append-le, take-all}
+use lib.Ieee.{Float}
 use borrow.Author.Tests.{lt-ltb}
 use Rattle.sphericalpoint.specs.declared.SphericalPoint.{SphericalPoint}
 use Rattle.sphericalpoint.specs.Vector.{xyzEq}
@@ -152,17 +153,17 @@ ring-alike (p ∷ ps) (q ∷ qs) e =
     chain-alike p q k (ps ++ (p ∷ [])) (qs ++ (q ∷ []))
     (map-append pointValue ps (p ∷ []) ∙ ap₂ (λ (l : List PointValue) (x : PointValue). l ++ (x ∷ [])) rest k ∙ sym (map-append pointValue qs (q ∷ [])))
 
-module _ (ps : List SphericalPoint) (same : ClosesOnItself ps) (ms : List Leg) where
+module _ (margin : Float) (ps : List SphericalPoint) (same : ClosesOnItself ps) (ms : List Leg) where
   abbrev legsOfBuilt : List SphericalPoint → List Leg
   legsOfBuilt qs = legs (builtString qs .vertices) (builtString qs .closed)
 
-  pairs-reversed : SamePairs (pairsBetween (legsOfBuilt (reverse ps)) ms) (pairsBetween (legsOfBuilt ps) ms)
+  pairs-reversed : SamePairs (pairsBetween margin (legsOfBuilt (reverse ps)) ms) (pairsBetween margin (legsOfBuilt ps) ms)
   pairs-reversed = go (builtString ps .closed) refl
     where
-      go : (b : Bool) → builtString ps .closed ≡ b → SamePairs (pairsBetween (legsOfBuilt (reverse ps)) ms) (pairsBetween (legsOfBuilt ps) ms)
+      go : (b : Bool) → builtString ps .closed ≡ b → SamePairs (pairsBetween margin (legsOfBuilt (reverse ps)) ms) (pairsBetween margin (legsOfBuilt ps) ms)
       go false e =
           let r = builds-in-reverse ps in
-          legs-turned (legsOfBuilt (reverse ps)) (legsOfBuilt ps) ms
+          legs-turned margin (legsOfBuilt (reverse ps)) (legsOfBuilt ps) ms
           (List·Permᴰ·trans (same-order (ap₂ legs (r .open-vertices e) (r .same-flag))) (legs-backwards (builtString ps .vertices) (builtString ps .closed)))
       go true e =
           let r = builds-in-reverse ps in
@@ -170,13 +171,16 @@ module _ (ps : List SphericalPoint) (same : ClosesOnItself ps) (ms : List Leg) w
           let us = reverse (restarted vs true 1) in
           let ws = builtString (reverse ps) .vertices in
           rw (r .same-flag, e)
-          (List·Permᴰ·trans (legs-alike (legs ws true) (legs us true) ms (ring-alike ws us (r .closed-vertices e same)))
-          (legs-turned (legs us true) (legs vs true) ms
+          (List·Permᴰ·trans (legs-alike margin (legs ws true) (legs us true) ms (ring-alike ws us (r .closed-vertices e same)))
+          (legs-turned margin (legs us true) (legs vs true) ms
           (List·Permᴰ·trans (legs-backwards (restarted vs true 1) true) (Permᴰ·map turned (legs-restarted vs true 1)))))
 
 pub built-reversed : BuiltReversed
-built-reversed ps same t =
-    counts-same (pairsOfStrings (builtString (reverse ps)) t) (pairsOfStrings (builtString ps) t) (pairs-reversed ps same (legs (t .vertices) (t .closed)))
+built-reversed margin ps same t =
+    counts-same (pairsOfStrings margin (builtString (reverse ps)) t) (pairsOfStrings margin (builtString ps) t)
+    (pairs-reversed margin ps same (legs (t .vertices) (t .closed)))
 
 pub strings-trade : StringsTrade
-strings-trade s t = counts-same (pairsOfStrings t s) (pairsOfStrings s t) (strings-traded (legs (s .vertices) (s .closed)) (legs (t .vertices) (t .closed)))
+strings-trade margin s t =
+    counts-same (pairsOfStrings margin t s) (pairsOfStrings margin s t)
+    (strings-traded margin (legs (s .vertices) (s .closed)) (legs (t .vertices) (t .closed)))

@@ -14,8 +14,8 @@ use Rattle.sphericalpoint.specs.declared.SphericalPoint.{SphericalPoint}
 use Rattle.sphericalpoint.specs.Point.{normalizedUnlessShort}
 use Rattle.arcstring_check.specs.Answer.{answered, unlessRefused, pick}
 use Rattle.arcstring.specs.Points.{itself, points}
-use Rattle.arcstring_check.specs.Check.{storedCheck, roomCheck}
-use Rattle.arcstring_check.proofs.Answers.{pass, both-passed}
+use Rattle.arcstring_check.specs.Check.{storedCheck, marginCheck, roomCheck}
+use Rattle.arcstring_check.proofs.Answers.{pass, both-passed, all-passed}
 use Rattle.arcstring.proofs.Flat.{count-points}
 use Rattle.arcstring_pair.specs.declared.pair.Pair.{Pair}
 use Rattle.arcstring_pair.specs.declared.pair.Pair.the-variants.{Clean, End, Grazing, Apart}
@@ -50,8 +50,9 @@ legs-in v closed = legs-length (points v) closed ∙ ap (λ (n : ℕ). legCount 
 
 -- ---- a string with itself
 
-pub counts-sum-within : (ps : List SphericalPoint) → sumOfCounts (countsOf (pairsWithin (legs ps false))) * 2 ≡ (length ps - 2) * (length ps - 3)
-counts-sum-within ps = ap (λ (m : ℕ). m * 2) (counts-sum (pairsWithin (legs ps false))) ∙ length-self ps
+pub counts-sum-within : (margin : Float) (ps : List SphericalPoint)
+    → sumOfCounts (countsOf (pairsWithin margin (legs ps false))) * 2 ≡ (length ps - 2) * (length ps - 3)
+counts-sum-within margin ps = ap (λ (m : ℕ). m * 2) (counts-sum (pairsWithin margin (legs ps false))) ∙ length-self margin ps
 
 -- ---- the clean points
 
@@ -90,67 +91,74 @@ few-kept (Apart ∷ ps) = omega (arith, few-kept ps)
 
 -- ---- what is answered where nothing refuses
 
--- a listing that has room, behind two checks
-listed-is : (n k : ℕ) (l m : Listing) (p q : ℕ) → unlessRefused n (unlessRefused k (inRoom l p q)) ≡ answered m → (n ≡ 0) × (k ≡ 0) × (l ≡ m)
+-- a listing that has room, behind three checks
+listed-is : (n k j : ℕ) (l m : Listing) (p q : ℕ) → unlessRefused n (unlessRefused k (unlessRefused j (inRoom l p q))) ≡ answered m
+    → (n ≡ 0) × (k ≡ 0) × (j ≡ 0) × (l ≡ m)
 unfolding inRoom
-listed-is zero zero l m p q h = (refl, refl, both-passed (roomCheck (3 * length (l .marks)) p) (roomCheck (length (l .marks)) q) l m h .2)
-listed-is zero (suc k) l m p q h = absurd (let z : _≡_ {A = ℕ} 0 1 = cc in omega arith)
-listed-is (suc n) k l m p q h = absurd (let z : _≡_ {A = ℕ} 0 1 = cc in omega arith)
+listed-is zero zero zero l m p q h = (refl, refl, refl, both-passed (roomCheck (3 * length (l .marks)) p) (roomCheck (length (l .marks)) q) l m h .2)
+listed-is zero zero (suc j) l m p q h = absurd (let z : _≡_ {A = ℕ} 0 1 = cc in omega arith)
+listed-is zero (suc k) j l m p q h = absurd (let z : _≡_ {A = ℕ} 0 1 = cc in omega arith)
+listed-is (suc n) k j l m p q h = absurd (let z : _≡_ {A = ℕ} 0 1 = cc in omega arith)
 
-module _ (a : List Float) (aClosed : Bool) (b : List Float) (bClosed : Bool) where
-  pub counted-is : (c : Counts) → counted a aClosed b bClosed ≡ answered c → countsOf (visited a aClosed b bClosed) ≡ c
+module _ (a : List Float) (aClosed : Bool) (b : List Float) (bClosed : Bool) (margin : Float) where
+  pub counted-is : (c : Counts) → counted a aClosed b bClosed margin ≡ answered c
+      → (storedCheck a ≡ 0) × (storedCheck b ≡ 0) × (marginCheck margin ≡ 0) × (countsOf (visited margin a aClosed b bClosed) ≡ c)
   unfolding counted
-  counted-is c h = both-passed (storedCheck a) (storedCheck b) (countsOf (visited a aClosed b bClosed)) c h .2
+  counted-is c h = all-passed (storedCheck a) (storedCheck b) (marginCheck margin) (countsOf (visited margin a aClosed b bClosed)) c h
 
-  pub crossings-is : (p m : ℕ) (l : Listing) → crossings a aClosed b bClosed p m ≡ answered l
-      → (storedCheck a ≡ 0) × (storedCheck b ≡ 0) × (listingOf (visited a aClosed b bClosed) ≡ l)
+  pub crossings-is : (p m : ℕ) (l : Listing) → crossings a aClosed b bClosed margin p m ≡ answered l
+      → (storedCheck a ≡ 0) × (storedCheck b ≡ 0) × (marginCheck margin ≡ 0) × (listingOf (visited margin a aClosed b bClosed) ≡ l)
   unfolding crossings
-  crossings-is p m l h = listed-is (storedCheck a) (storedCheck b) (listingOf (visited a aClosed b bClosed)) l p m h
+  crossings-is p m l h = listed-is (storedCheck a) (storedCheck b) (marginCheck margin) (listingOf (visited margin a aClosed b bClosed)) l p m h
 
-leg-crossings-is : (arc : Leg) (v : List Float) (closed : Bool) (p m : ℕ) (l : Listing) → legCrossings arc v closed p m ≡ answered l
-    → listingOf (legPairs arc v closed) ≡ l
+pub leg-crossings-is : (arc : Leg) (v : List Float) (closed : Bool) (margin : Float) (p m : ℕ) (l : Listing) → legCrossings arc v closed margin p m ≡ answered l
+    → listingOf (legPairs margin arc v closed) ≡ l
 unfolding legCrossings
-leg-crossings-is arc v closed p m l h = listed-is (legCheck arc) (storedCheck v) (listingOf (legPairs arc v closed)) l p m h .2
+leg-crossings-is arc v closed margin p m l h =
+    listed-is (legCheck arc) (storedCheck v) (marginCheck margin) (listingOf (legPairs margin arc v closed)) l p m h .3
 
-pub self-crossings-is : (v : List Float) (p m : ℕ) (l : Listing) → selfCrossings v p m ≡ answered l → normalizedListing (listingOf (selfPairs v false)) ≡ l
+pub self-crossings-is : (v : List Float) (margin : Float) (p m : ℕ) (l : Listing) → selfCrossings v margin p m ≡ answered l
+    → normalizedListing (listingOf (selfPairs margin v false)) ≡ l
 unfolding selfCrossings
-self-crossings-is v p m l h = listed-is (storedCheck v) 0 (normalizedListing (listingOf (selfPairs v false))) l p m h .2
+self-crossings-is v margin p m l h =
+    listed-is (storedCheck v) (marginCheck margin) 0 (normalizedListing (listingOf (selfPairs margin v false))) l p m h .3
 
 -- ---- the sums
 
 pub counts-add-up : CountsAddUp
 unfolding visited
-counts-add-up a aClosed b bClosed c h =
+counts-add-up a aClosed b bClosed margin c h =
     let ls = legs (points a) aClosed in
     let ms = legs (points b) bClosed in
-    ap sumOfCounts (sym (counted-is a aClosed b bClosed c h))
-    ∙ counts-sum (pairsBetween ls ms)
-    ∙ length-between ls ms
+    ap sumOfCounts (sym (counted-is a aClosed b bClosed margin c h .3))
+    ∙ counts-sum (pairsBetween margin ls ms)
+    ∙ length-between margin ls ms
     ∙ ap₂ _*_ (legs-in a aClosed) (legs-in b bClosed)
 
 pub listing-agrees : ListingAgrees
 unfolding counted listingOf
-listing-agrees a aClosed b bClosed p m l h =
-    let is = crossings-is a aClosed b bClosed p m l h in
-    pass _ _ (is .0) ∙ pass _ _ (is .1) ∙ ap (λ (x : Listing). answered (x .counts)) (is .2)
+listing-agrees a aClosed b bClosed margin p m l h =
+    let is = crossings-is a aClosed b bClosed margin p m l h in
+    pass _ _ (is .0) ∙ pass _ _ (is .1) ∙ pass _ _ (is .2) ∙ ap (λ (x : Listing). answered (x .counts)) (is .3)
 
 pub listing-adds-up : ListingAddsUp
-listing-adds-up a aClosed b bClosed p m l h = counts-add-up a aClosed b bClosed (l .counts) (listing-agrees a aClosed b bClosed p m l h)
+listing-adds-up a aClosed b bClosed margin p m l h =
+    counts-add-up a aClosed b bClosed margin (l .counts) (listing-agrees a aClosed b bClosed margin p m l h)
 
 pub leg-listing-adds-up : LegListingAddsUp
 unfolding listingOf legPairs
-leg-listing-adds-up arc v closed p m l h =
+leg-listing-adds-up arc v closed margin p m l h =
     let ls = legs (points v) closed in
-    ap (λ (x : Listing). sumOfCounts (x .counts)) (sym (leg-crossings-is arc v closed p m l h))
-    ∙ counts-sum (map (pairOf arc) ls)
-    ∙ length-map ls (pairOf arc)
+    ap (λ (x : Listing). sumOfCounts (x .counts)) (sym (leg-crossings-is arc v closed margin p m l h))
+    ∙ counts-sum (map (pairOf margin arc) ls)
+    ∙ length-map ls (pairOf margin arc)
     ∙ legs-in v closed
 
 pub self-listing-adds-up : SelfListingAddsUp
 unfolding normalizedListing listingOf selfPairs
-self-listing-adds-up v p m l h =
-    ap (λ (x : Listing). sumOfCounts (x .counts) * 2) (sym (self-crossings-is v p m l h))
-    ∙ counts-sum-within (points v)
+self-listing-adds-up v margin p m l h =
+    ap (λ (x : Listing). sumOfCounts (x .counts) * 2) (sym (self-crossings-is v margin p m l h))
+    ∙ counts-sum-within margin (points v)
     ∙ ap (λ (n : ℕ). (n - 2) * (n - 3)) (count-points v)
 
 -- ---- listings of pairs
@@ -191,11 +199,13 @@ self-listed-of ps =
     }
 
 pub listing-of-pairs : ListingOfPairs
-listing-of-pairs a aClosed b bClosed p m l h =
-    let ps = visited a aClosed b bClosed in subst (ListedOf ps itself) (crossings-is a aClosed b bClosed p m l h .2) (listed-of ps)
+listing-of-pairs a aClosed b bClosed margin p m l h =
+    let ps = visited margin a aClosed b bClosed in subst (ListedOf ps itself) (crossings-is a aClosed b bClosed margin p m l h .3) (listed-of ps)
 
 pub leg-listing-of-pairs : LegListingOfPairs
-leg-listing-of-pairs arc v closed p m l h = let ps = legPairs arc v closed in subst (ListedOf ps itself) (leg-crossings-is arc v closed p m l h) (listed-of ps)
+leg-listing-of-pairs arc v closed margin p m l h =
+    let ps = legPairs margin arc v closed in subst (ListedOf ps itself) (leg-crossings-is arc v closed margin p m l h) (listed-of ps)
 
 pub self-listing-of-pairs : SelfListingOfPairs
-self-listing-of-pairs v p m l h = let ps = selfPairs v false in subst (ListedOf ps normalizedUnlessShort) (self-crossings-is v p m l h) (self-listed-of ps)
+self-listing-of-pairs v margin p m l h =
+    let ps = selfPairs margin v false in subst (ListedOf ps normalizedUnlessShort) (self-crossings-is v margin p m l h) (self-listed-of ps)

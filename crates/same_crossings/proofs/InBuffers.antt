@@ -63,7 +63,7 @@ lendings-as (l ∷ ls) t = ap (lendings ls) (lend-as l t) ∙ lendings-as ls (ch
 -- ---- what is claimed
 
 pub demand-3-in-buffers : Demand3InBuffers
-demand-3-in-buffers t a b ls = rw (lendings-as ls t) (demand-3 .stay t a b (map asChange ls))
+demand-3-in-buffers margin t a b ls = rw (lendings-as ls t) (demand-3 .stay margin t a b (map asChange ls))
 
 pub displays-agree : DisplaysAgree
-displays-agree t a b ls ms = sym (demand-3-in-buffers t a b ls .same-counts) ∙ demand-3-in-buffers t a b ms .same-counts
+displays-agree margin t a b ls ms = sym (demand-3-in-buffers margin t a b ls .same-counts) ∙ demand-3-in-buffers margin t a b ms .same-counts

@@ -8,8 +8,8 @@ use native.Mathlib.Omega.{arith}
 use lib.ListN.{length, drop, length-map}
 use lib.Ieee.{Float}
 use Rattle.arcstring_check.specs.Answer.{answered}
-use Rattle.arcstring_check.specs.Check.{storedCheck, roomCheck}
-use Rattle.arcstring_check.proofs.Answers.{pass, both-passed}
+use Rattle.arcstring_check.specs.Check.{storedCheck, marginCheck, roomCheck}
+use Rattle.arcstring_check.proofs.Answers.{pass, all-passed}
 use Rattle.arcstring_check.proofs.Rooms.{room-enough}
 use Rattle.arcstring.specs.Points.{points}
 use Rattle.arcstring.specs.Leg.{Leg, legs}
@@ -36,58 +36,58 @@ in-room l n p m few holds =
 
 pub counted-room-enough : CountedRoomEnough
 unfolding counted crossings listingOf countsOf
-counted-room-enough a aClosed b bClosed p m c h holds =
-    let ps = visited a aClosed b bClosed in
-    let passed = both-passed (storedCheck a) (storedCheck b) (countsOf ps) c h in
-    let few : length (keptMarks ps) ≤ roomFor c = subst (λ (x : Counts). length (keptMarks ps) ≤ roomFor x) (passed .2) (few-kept ps) in
-    pass _ _ (passed .0) ∙ pass _ _ (passed .1) ∙ in-room (listingOf ps) (roomFor c) p m few holds
+counted-room-enough a aClosed b bClosed margin p m c h holds =
+    let ps = visited margin a aClosed b bClosed in
+    let passed = all-passed (storedCheck a) (storedCheck b) (marginCheck margin) (countsOf ps) c h in
+    let few : length (keptMarks ps) ≤ roomFor c = subst (λ (x : Counts). length (keptMarks ps) ≤ roomFor x) (passed .3) (few-kept ps) in
+    pass _ _ (passed .0) ∙ pass _ _ (passed .1) ∙ pass _ _ (passed .2) ∙ in-room (listingOf ps) (roomFor c) p m few holds
 
 -- ---- a leg and a string
 
 pub leg-room-enough : LegRoomEnough
 unfolding legCrossings listingOf legPairs
-leg-room-enough arc v closed p m leg-passes passes holds =
+leg-room-enough arc v closed margin p m leg-passes passes margin-passes holds =
     let ls = legs (points v) closed in
-    let ps = map (pairOf arc) ls in
-    let as-many : length ps ≡ legsIn v closed = length-map ls (pairOf arc) ∙ legs-in v closed in
+    let ps = map (pairOf margin arc) ls in
+    let as-many : length ps ≡ legsIn v closed = length-map ls (pairOf margin arc) ∙ legs-in v closed in
     let few : length (keptMarks ps) ≤ legsIn v closed = omega (arith, few-kept ps, all-classes ps, as-many) in
-    pass _ _ leg-passes ∙ pass _ _ passes ∙ in-room (listingOf ps) (legsIn v closed) p m few holds
+    pass _ _ leg-passes ∙ pass _ _ passes ∙ pass _ _ margin-passes ∙ in-room (listingOf ps) (legsIn v closed) p m few holds
 
 -- ---- a string with itself: its pairs are among those of the string with itself as with another
 
-module _ (g : Pair → ℕ) where
-  total-drop : (a : Leg) (ls : List Leg) → total g (map (pairOf a) (drop 1 ls)) ≤ total g (map (pairOf a) ls)
+module _ (margin : Float) (g : Pair → ℕ) where
+  total-drop : (a : Leg) (ls : List Leg) → total g (map (pairOf margin a) (drop 1 ls)) ≤ total g (map (pairOf margin a) ls)
   unfolding total
   total-drop a [] = omega arith
   total-drop a (l ∷ ls) = omega arith
 
-  total-longer : (ls : List Leg) (b : Leg) (bs : List Leg) → total g (pairsBetween ls bs) ≤ total g (pairsBetween ls (b ∷ bs))
+  total-longer : (ls : List Leg) (b : Leg) (bs : List Leg) → total g (pairsBetween margin ls bs) ≤ total g (pairsBetween margin ls (b ∷ bs))
   unfolding pairsBetween total
   total-longer [] b bs = omega arith
   total-longer (a ∷ ls) b bs =
-      let shorter = total-append g (map (pairOf a) bs) (pairsBetween ls bs) in
-      let longer = total-append g (map (pairOf a) bs) (pairsBetween ls (b ∷ bs)) in
+      let shorter = total-append g (map (pairOf margin a) bs) (pairsBetween margin ls bs) in
+      let longer = total-append g (map (pairOf margin a) bs) (pairsBetween margin ls (b ∷ bs)) in
       omega (arith, shorter, longer, total-longer ls b bs)
 
-  total-within : (ls : List Leg) → total g (pairsWithin ls) ≤ total g (pairsBetween ls ls)
+  total-within : (ls : List Leg) → total g (pairsWithin margin ls) ≤ total g (pairsBetween margin ls ls)
   unfolding pairsWithin pairsBetween total
   total-within [] = omega arith
   total-within (a ∷ ls) =
-      let within = total-append g (map (pairOf a) (drop 1 ls)) (pairsWithin ls) in
-      let between = total-append g (map (pairOf a) ls) (pairsBetween ls (a ∷ ls)) in
+      let within = total-append g (map (pairOf margin a) (drop 1 ls)) (pairsWithin margin ls) in
+      let between = total-append g (map (pairOf margin a) ls) (pairsBetween margin ls (a ∷ ls)) in
       omega (arith, within, between, total-drop a ls, total-within ls, total-longer ls a ls)
 
-self-kept : (v : List Float) → length (keptMarks (selfPairs v false)) ≤ roomFor (countsOf (visited v false v false))
+self-kept : (margin : Float) (v : List Float) → length (keptMarks (selfPairs margin v false)) ≤ roomFor (countsOf (visited margin v false v false))
 unfolding selfPairs visited countsOf
-self-kept v =
+self-kept margin v =
     let ls = legs (points v) false in
-    omega (arith, few-kept (pairsWithin ls), total-within oneClean ls, total-within oneGrazing ls)
+    omega (arith, few-kept (pairsWithin margin ls), total-within margin oneClean ls, total-within margin oneGrazing ls)
 
 pub self-room-enough : SelfRoomEnough
 unfolding counted selfCrossings normalizedListing listingOf
-self-room-enough v p m c h holds =
-    let ps = selfPairs v false in
-    let passed = both-passed (storedCheck v) (storedCheck v) (countsOf (visited v false v false)) c h in
+self-room-enough v margin p m c h holds =
+    let ps = selfPairs margin v false in
+    let passed = all-passed (storedCheck v) (storedCheck v) (marginCheck margin) (countsOf (visited margin v false v false)) c h in
     let as-many : length (map normalizedMark (keptMarks ps)) ≡ length (keptMarks ps) = length-map (keptMarks ps) normalizedMark in
-    let room : length (keptMarks ps) ≤ roomFor c = subst (λ (x : Counts). length (keptMarks ps) ≤ roomFor x) (passed .2) (self-kept v) in
-    pass _ _ (passed .0) ∙ in-room (normalizedListing (listingOf ps)) (roomFor c) p m (omega (arith, as-many, room)) holds
+    let room : length (keptMarks ps) ≤ roomFor c = subst (λ (x : Counts). length (keptMarks ps) ≤ roomFor x) (passed .3) (self-kept margin v) in
+    pass _ _ (passed .0) ∙ pass _ _ (passed .2) ∙ in-room (normalizedListing (listingOf ps)) (roomFor c) p m (omega (arith, as-many, room)) holds

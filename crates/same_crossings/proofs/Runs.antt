@@ -5,6 +5,7 @@ use mathlib.Core.Bool.{false}
 use mathlib.Core.List.{List, [], _∷_, _++_, map}
 use Prim.Native.Nat.{ℕ, _+_}
 use native.Mathlib.Omega.{arith}
+use lib.Ieee.{Float}
 use Rattle.sphericalpoint.specs.declared.SphericalPoint.{SphericalPoint}
 use Rattle.arcstring.specs.Leg.{Leg, leg, legs, chain}
 use Rattle.arcstring_pair.specs.declared.pair.Pair.{Pair}
@@ -24,18 +25,19 @@ unfolding legs
 legs-runs [] x qs = refl
 legs-runs (p ∷ ps) x qs = chain-runs p ps x qs
 
-total-runs : (g : Pair → ℕ) (ks ms ls : List Leg) → total g (pairsBetween (ks ++ ms) ls) ≡ total g (pairsBetween ks ls) + total g (pairsBetween ms ls)
+total-runs : (margin : Float) (g : Pair → ℕ) (ks ms ls : List Leg)
+    → total g (pairsBetween margin (ks ++ ms) ls) ≡ total g (pairsBetween margin ks ls) + total g (pairsBetween margin ms ls)
 unfolding pairsBetween total
-total-runs g [] ms ls = omega arith
-total-runs g (k ∷ ks) ms ls =
-    let whole = total-append g (map (pairOf k) ls) (pairsBetween (ks ++ ms) ls) in
-    let part = total-append g (map (pairOf k) ls) (pairsBetween ks ls) in
-    omega (arith, whole, part, total-runs g ks ms ls)
+total-runs margin g [] ms ls = omega arith
+total-runs margin g (k ∷ ks) ms ls =
+    let whole = total-append g (map (pairOf margin k) ls) (pairsBetween margin (ks ++ ms) ls) in
+    let part = total-append g (map (pairOf margin k) ls) (pairsBetween margin ks ls) in
+    omega (arith, whole, part, total-runs margin g ks ms ls)
 
 pub runs-add-up : RunsAddUp
 unfolding countsOf
-runs-add-up ps x qs ls =
+runs-add-up margin ps x qs ls =
     let ks = legs (ps ++ (x ∷ [])) false in
     let ms = legs (x ∷ qs) false in
-    ap (λ (all : List Leg). countsOf (pairsBetween all ls)) (legs-runs ps x qs)
-    ∙ simp (total-runs oneClean ks ms ls, total-runs oneEnd ks ms ls, total-runs oneGrazing ks ms ls, total-runs oneApart ks ms ls)
+    ap (λ (all : List Leg). countsOf (pairsBetween margin all ls)) (legs-runs ps x qs)
+    ∙ simp (total-runs margin oneClean ks ms ls, total-runs margin oneEnd ks ms ls, total-runs margin oneGrazing ks ms ls, total-runs margin oneApart ks ms ls)

@@ -5,6 +5,7 @@ use mathlib.Core.List.{List, [], _∷_, _++_, map, reverse, filterMap, map-appen
 use mathlib.Core.Option.{Option, none, some}
 use Prim.Native.Nat.{ℕ, _+_}
 use lib.ListN.{drop}
+use lib.Ieee.{Float}
 use Rattle.ieee754.specs.Value.{float}
 use Rattle.ieee754.proofs.ByValue.{value-float}
 use Rattle.sphericalpoint.specs.declared.SphericalPoint.{SphericalPoint}
@@ -114,52 +115,56 @@ pub normalized-same : (ps qs : List SphericalPoint) → List·Permᴰ (map point
 normalized-same ps qs d =
     List·Permᴰ·trans (same-order (normal-values ps)) (List·Permᴰ·trans (Permᴰ·map normalValue d) (same-order (sym (normal-values qs))))
 
--- ---- two strings
-
-abbrev classAndPoint : Leg → Leg → PairValue
-classAndPoint a b = pairValue (pairOf a b)
-
-between-values : (ls ms : List Leg) → map pairValue (pairsBetween ls ms) ≡ grid classAndPoint ls ms
-unfolding pairsBetween
-between-values [] ms = refl
-between-values (a ∷ ls) ms = map-append pairValue (map (pairOf a) ms) (pairsBetween ls ms) ∙ ap₂ _++_ (map-map pairValue (pairOf a) ms) (between-values ls ms)
-
-module _ (ls ks ms : List Leg) where
-  by-values : (ns : List Leg) → List·Permᴰ (grid classAndPoint ls ms) (grid classAndPoint ks ns) → SamePairs (pairsBetween ls ms) (pairsBetween ks ns)
-  by-values ns d = List·Permᴰ·trans (same-order (between-values ls ms)) (List·Permᴰ·trans d (same-order (sym (between-values ks ns))))
-
-  pub legs-in-order : List·Permᴰ ls ks → SamePairs (pairsBetween ls ms) (pairsBetween ks ms)
-  legs-in-order d = by-values ms (grid-order classAndPoint ms d)
-
-  pub legs-turned : List·Permᴰ ls (map turned ks) → SamePairs (pairsBetween ls ms) (pairsBetween ks ms)
-  legs-turned d = by-values ms (List·Permᴰ·trans (grid-order classAndPoint ms d) (same-order (grid-turned classAndPoint turned first-turned ks ms)))
-
 -- legs whose ends have the same values, one by one
 pub data AllAlike : List Leg → List Leg → Type 0 where
   no-legs : AllAlike [] []
   one-more : {c a : Leg} {ls ks : List Leg} → Same (c .from) (a .from) → Same (c .to) (a .to) → AllAlike ls ks → AllAlike (c ∷ ls) (a ∷ ks)
 
-grid-alike : {ls ks : List Leg} (ms : List Leg) → AllAlike ls ks → grid classAndPoint ls ms ≡ grid classAndPoint ks ms
-grid-alike ms no-legs = refl
-grid-alike ms (one-more {c} {a} from to alike) =
-    ap₂ _++_ (map-same (classAndPoint c) (classAndPoint a) (λ (b : Leg). first-alike a c b from to) ms) (grid-alike ms alike)
+-- ---- two strings, at a margin
 
-pub legs-alike : (ls ks ms : List Leg) → AllAlike ls ks → SamePairs (pairsBetween ls ms) (pairsBetween ks ms)
-legs-alike ls ks ms alike = by-values ls ks ms ms (same-order (grid-alike ms alike))
+module _ (margin : Float) where
+  abbrev classAndPoint : Leg → Leg → PairValue
+  classAndPoint a b = pairValue (pairOf margin a b)
 
-pub strings-traded : (ls ms : List Leg) → SamePairs (pairsBetween ms ls) (pairsBetween ls ms)
-strings-traded ls ms = by-values ms ls ls ms (grid-traded classAndPoint legs-traded ls ms)
+  between-values : (ls ms : List Leg) → map pairValue (pairsBetween margin ls ms) ≡ grid classAndPoint ls ms
+  unfolding pairsBetween
+  between-values [] ms = refl
+  between-values (a ∷ ls) ms =
+      map-append pairValue (map (pairOf margin a) ms) (pairsBetween margin ls ms) ∙ ap₂ _++_ (map-map pairValue (pairOf margin a) ms) (between-values ls ms)
 
--- ---- a string with itself
+  module _ (ls ks ms : List Leg) where
+    by-values : (ns : List Leg) → List·Permᴰ (grid classAndPoint ls ms) (grid classAndPoint ks ns)
+        → SamePairs (pairsBetween margin ls ms) (pairsBetween margin ks ns)
+    by-values ns d = List·Permᴰ·trans (same-order (between-values ls ms)) (List·Permᴰ·trans d (same-order (sym (between-values ks ns))))
 
-within-values : (ls : List Leg) → map pairValue (pairsWithin ls) ≡ spaced classAndPoint ls
-unfolding pairsWithin
-within-values [] = refl
-within-values (a ∷ ls) =
-    map-append pairValue (map (pairOf a) (drop 1 ls)) (pairsWithin ls) ∙ ap₂ _++_ (map-map pairValue (pairOf a) (drop 1 ls)) (within-values ls)
+    pub legs-in-order : List·Permᴰ ls ks → SamePairs (pairsBetween margin ls ms) (pairsBetween margin ks ms)
+    legs-in-order d = by-values ms (grid-order classAndPoint ms d)
 
-pub within-backwards : (ls : List Leg) → SamePairs (pairsWithin (reverse (map turned ls))) (pairsWithin ls)
-within-backwards ls =
-    List·Permᴰ·trans (same-order (within-values (reverse (map turned ls))))
-    (List·Permᴰ·trans (spaced-reversed classAndPoint legs-traded (map turned ls))
-    (same-order (spaced-turned classAndPoint turned first-turned second-turned ls ∙ sym (within-values ls))))
+    pub legs-turned : List·Permᴰ ls (map turned ks) → SamePairs (pairsBetween margin ls ms) (pairsBetween margin ks ms)
+    legs-turned d = by-values ms (List·Permᴰ·trans (grid-order classAndPoint ms d) (same-order (grid-turned classAndPoint turned (first-turned margin) ks ms)))
+
+  grid-alike : {ls ks : List Leg} (ms : List Leg) → AllAlike ls ks → grid classAndPoint ls ms ≡ grid classAndPoint ks ms
+  grid-alike ms no-legs = refl
+  grid-alike ms (one-more {c} {a} from to alike) =
+      ap₂ _++_ (map-same (classAndPoint c) (classAndPoint a) (λ (b : Leg). first-alike margin a c b from to) ms) (grid-alike ms alike)
+
+  pub legs-alike : (ls ks ms : List Leg) → AllAlike ls ks → SamePairs (pairsBetween margin ls ms) (pairsBetween margin ks ms)
+  legs-alike ls ks ms alike = by-values ls ks ms ms (same-order (grid-alike ms alike))
+
+  pub strings-traded : (ls ms : List Leg) → SamePairs (pairsBetween margin ms ls) (pairsBetween margin ls ms)
+  strings-traded ls ms = by-values ms ls ls ms (grid-traded classAndPoint (legs-traded margin) ls ms)
+
+  -- ---- a string with itself
+
+  within-values : (ls : List Leg) → map pairValue (pairsWithin margin ls) ≡ spaced classAndPoint ls
+  unfolding pairsWithin
+  within-values [] = refl
+  within-values (a ∷ ls) =
+      map-append pairValue (map (pairOf margin a) (drop 1 ls)) (pairsWithin margin ls) ∙ ap₂ _++_ (map-map pairValue (pairOf margin a) (drop 1 ls))
+      (within-values ls)
+
+  pub within-backwards : (ls : List Leg) → SamePairs (pairsWithin margin (reverse (map turned ls))) (pairsWithin margin ls)
+  within-backwards ls =
+      List·Permᴰ·trans (same-order (within-values (reverse (map turned ls))))
+      (List·Permᴰ·trans (spaced-reversed classAndPoint (legs-traded margin) (map turned ls))
+      (same-order (spaced-turned classAndPoint turned (first-turned margin) (second-turned margin) ls ∙ sym (within-values ls))))

@@ -5,8 +5,11 @@ use mathlib.Core.Bool.{Bool, true, false, _&&_, _||_, or-comm, or-assoc}
 use mathlib.Core.List.{List, [], _∷_, List·Permᴰ, List·Permᴰ·nil, List·Permᴰ·cons, List·Permᴰ·swap, List·Permᴰ·trans, Permᴰ·middle}
 use lib.Dec.{T}
 use lib.Ieee.Fits.{and-l}
-use lib.Ieee.{Float, neg, lt}
-use Rattle.ieee754.proofs.Comparisons.{lt-value, eq-value, zero-neg, pos-neg, neg-pos, not-both-signs}
+use lib.Ieee.{Float, nan, inf, fin, neg, lt}
+use Rattle.ieee754.specs.Size.{abs}
+use Rattle.ieee754.specs.Value.{value}
+use Rattle.ieee754.proofs.ByValue.{abs-value}
+use Rattle.ieee754.proofs.Comparisons.{lt-value, le-value, pos-neg, neg-pos, not-both-signs}
 use Rattle.sphericalpoint.specs.declared.SphericalPoint.{SphericalPoint}
 use Rattle.sphericalpoint.specs.Vector.{xyzCross, xyzNeg, xyzEq}
 use Rattle.arcstring_check.specs.Answer.{pick}
@@ -67,11 +70,18 @@ pub data Opposite : List Float → List Float → Type 0 where
   none : Opposite [] []
   one : {x y : Float} {l m : List Float} → Like x (neg y) → Opposite l m → Opposite (x ∷ l) (y ∷ m)
 
-module _ (x y : Float) where
-  grazes-opposite : Like x (neg y) → grazes x ≡ grazes y
-  unfolding grazes
-  grazes-opposite (like p) = eq-value x (neg y) zeroFloat zeroFloat p refl ∙ zero-neg y
+-- the size does not change with the sign
+size-neg : (x : Float) → abs (neg x) ≡ abs x
+unfolding abs neg
+size-neg nan = refl
+size-neg (inf s) = refl
+size-neg (fin s m e) = refl
 
+grazes-opposite : (margin x y : Float) → Like x (neg y) → grazes margin x ≡ grazes margin y
+unfolding grazes
+grazes-opposite margin x y (like p) = le-value (abs x) (abs y) margin margin (abs-value x (neg y) p ∙ ap value (size-neg y)) refl
+
+module _ (x y : Float) where
   above-opposite : Like x (neg y) → isAbove x ≡ isBelow y
   unfolding isAbove isBelow
   above-opposite (like p) = lt-value zeroFloat zeroFloat x (neg y) refl p ∙ pos-neg y
@@ -134,20 +144,22 @@ module _ (a b a' b' : Leg) (ends : (p : SphericalPoint) → atEnd p a' b' ≡ at
       ∙ (λ i. pick ((ends p ∙ atEnd-value s) i) endClass (cleanAt (same-point s i)))
       ∙ sym (endOrClean-value q a b)
 
-  class-opposite : (t : SphericalPoint) {t' : SphericalPoint} (x : Float) (s : List Float) {s' l : List Float} → Same t' (xyzNeg t) → Opposite s' l
+  class-opposite : (margin : Float) (t : SphericalPoint) {t' : SphericalPoint} (x : Float) (s : List Float) {s' l : List Float} → Same t' (xyzNeg t)
+      → Opposite s' l
       → List·Permᴰ l (x ∷ s)
-      → pairValue (classAt t' a' b' s') ≡ pairValue (classAt t a b (x ∷ s))
+      → pairValue (classAt margin t' a' b' s') ≡ pairValue (classAt margin t a b (x ∷ s))
   unfolding classAt
-  class-opposite t {t'} x s {s'} {l} same o d =
-      byTests-value (someSide grazes s') (everySide isAbove s') (everySide isBelow s') (grazingOutcome t' a' b' s') (endOrClean t' a' b')
+  class-opposite margin t {t'} x s {s'} {l} same o d =
+      byTests-value (someSide (grazes margin) s') (everySide isAbove s') (everySide isBelow s') (grazingOutcome t' a' b' s') (endOrClean t' a' b')
       (endOrClean (xyzNeg t') a' b')
       ∙ (λ i. byTests
-      ((some-opposite grazes grazes grazes-opposite o ∙ some-order grazes d) i)
+      ((some-opposite (grazes margin) (grazes margin) (grazes-opposite margin) o ∙ some-order (grazes margin) d) i)
       ((every-opposite isAbove isBelow above-opposite o ∙ every-order isBelow d) i)
       ((every-opposite isBelow isAbove below-opposite o ∙ every-order isAbove d) i)
       (endOrClean-same same i) (endOrClean-same (same-trans (same-neg same) (neg-twice t)) i))
-      ∙ byTests-opposite (someSide grazes (x ∷ s)) (everySide isAbove (x ∷ s)) (everySide isBelow (x ∷ s)) _ _ (not-both x s)
-      ∙ sym (byTests-value (someSide grazes (x ∷ s)) (everySide isAbove (x ∷ s)) (everySide isBelow (x ∷ s)) (grazingOutcome t a b (x ∷ s)) (endOrClean t a b)
+      ∙ byTests-opposite (someSide (grazes margin) (x ∷ s)) (everySide isAbove (x ∷ s)) (everySide isBelow (x ∷ s)) _ _ (not-both x s)
+      ∙ sym (byTests-value (someSide (grazes margin) (x ∷ s)) (everySide isAbove (x ∷ s)) (everySide isBelow (x ∷ s)) (grazingOutcome t a b (x ∷ s))
+      (endOrClean t a b)
       (endOrClean (xyzNeg t) a b))
 
 -- ---- what turns sign with a leg
@@ -223,34 +235,35 @@ module _ (a b : Leg) where
   unfolding atEnd
   ends-traded p = or-halves (xyzEq p (a .from)) (xyzEq p (a .to)) (xyzEq p (b .from)) (xyzEq p (b .to))
 
-  first-turns : (c : Leg) → Turns a c → pairValue (pairOf c b) ≡ pairValue (pairOf a b)
+module _ (margin : Float) (a b : Leg) where
+  first-turns : (c : Leg) → Turns a c → pairValue (pairOf margin c b) ≡ pairValue (pairOf margin a b)
   unfolding pairOf sideValues
   first-turns c h =
       let t = meeting a b in
       let m = meeting-first a b c h in
-      class-opposite a b c b (ends-first c h) t (sideFrom a t) _ m
+      class-opposite a b c b (ends-first a b c h) margin t (sideFrom a t) _ m
       (one (sideFrom-turned a t m c h) (one (sideTo-turned a t m c h) (one (sideFrom-opposite b t m) (one (sideTo-opposite b t m) none))))
       (List·Permᴰ·swap refl refl)
 
-  pub first-turned : pairValue (pairOf (turned a) b) ≡ pairValue (pairOf a b)
+  pub first-turned : pairValue (pairOf margin (turned a) b) ≡ pairValue (pairOf margin a b)
   first-turned = first-turns (turned a) (turned-turns a)
 
-  pub second-turned : pairValue (pairOf a (turned b)) ≡ pairValue (pairOf a b)
+  pub second-turned : pairValue (pairOf margin a (turned b)) ≡ pairValue (pairOf margin a b)
   unfolding pairOf sideValues
   second-turned =
       let t = meeting a b in
       let m = meeting-second a b in
       let r = turned-turns b in
-      class-opposite a b a (turned b) (ends-second) t (sideFrom a t) _ m
+      class-opposite a b a (turned b) (ends-second a b) margin t (sideFrom a t) _ m
       (one (sideFrom-opposite a t m) (one (sideTo-opposite a t m) (one (sideFrom-turned b t m (turned b) r) (one (sideTo-turned b t m (turned b) r) none))))
       (List·Permᴰ·cons refl (List·Permᴰ·cons refl (List·Permᴰ·swap refl refl)))
 
-  pub legs-traded : pairValue (pairOf b a) ≡ pairValue (pairOf a b)
+  pub legs-traded : pairValue (pairOf margin b a) ≡ pairValue (pairOf margin a b)
   unfolding pairOf sideValues
   legs-traded =
       let t = meeting a b in
       let m = meeting-traded a b in
-      class-opposite a b b a (ends-traded) t (sideFrom a t) _ m
+      class-opposite a b b a (ends-traded a b) margin t (sideFrom a t) _ m
       (one (sideFrom-opposite b t m) (one (sideTo-opposite b t m) (one (sideFrom-opposite a t m) (one (sideTo-opposite a t m) none))))
       (halves _ _ _ _)
     where
@@ -259,5 +272,6 @@ module _ (a b : Leg) where
           List·Permᴰ·trans (Permᴰ·middle s1 (s3 ∷ s4 ∷ []) (s2 ∷ [])) (List·Permᴰ·cons refl (Permᴰ·middle s2 (s3 ∷ s4 ∷ []) []))
 
 -- other ends of the same value: turned twice
-pub first-alike : (a c b : Leg) → Same (c .from) (a .from) → Same (c .to) (a .to) → pairValue (pairOf c b) ≡ pairValue (pairOf a b)
-first-alike a c b from to = first-turns (turned a) b c (record { from = from; to = to }) ∙ first-turned a b
+pub first-alike : (margin : Float) (a c b : Leg) → Same (c .from) (a .from) → Same (c .to) (a .to)
+    → pairValue (pairOf margin c b) ≡ pairValue (pairOf margin a b)
+first-alike margin a c b from to = first-turns margin (turned a) b c (record { from = from; to = to }) ∙ first-turned margin a b

@@ -1,11 +1,12 @@
 -- What is claimed of built strings whose points stand in reverse, and of strings that trade places: their counts are the same. Of the counts alone, for
--- points of any floats: nothing has to be accepted. Definitions only. The proofs are `builds-in-reverse`, `built-reversed` and `strings-trade` of
--- `proofs/BuiltChanges.antt`.
+-- points of any floats and at any margin: nothing has to be accepted. Definitions only. The proofs are `builds-in-reverse`, `built-reversed` and
+-- `strings-trade` of `proofs/BuiltChanges.antt`.
 use mathlib.Core.Path.{_≡_}
 use mathlib.Core.Bool.{true, false}
 use mathlib.Core.List.{List, map, reverse}
 use Prim.Native.Nat.{ℕ, _-_}
 use lib.ListN.{length, getD}
+use lib.Ieee.{Float}
 use Rattle.sphericalpoint.specs.declared.SphericalPoint.{SphericalPoint}
 use Rattle.sphericalpoint.specs.Point.{normalizedUnlessShort}
 use Rattle.arcstring.specs.Points.{ArcString, noPoint}
@@ -40,14 +41,14 @@ BuildsInReverse = (ps : List SphericalPoint) → BuiltInReverse ps
 
 -- ---- the counts
 
--- every leg of the first string with every leg of the second
-abbrev pub pairsOfStrings : ArcString → ArcString → List Pair
-pairsOfStrings s t = pairsBetween (legs (s .vertices) (s .closed)) (legs (t .vertices) (t .closed))
+-- every leg of the first string with every leg of the second, at a margin
+abbrev pub pairsOfStrings : Float → ArcString → ArcString → List Pair
+pairsOfStrings margin s t = pairsBetween margin (legs (s .vertices) (s .closed)) (legs (t .vertices) (t .closed))
 
 abbrev pub BuiltReversed : Type 0
 BuiltReversed =
-    (ps : List SphericalPoint) → ClosesOnItself ps → (t : ArcString)
-    → countsOf (pairsOfStrings (builtString (reverse ps)) t) ≡ countsOf (pairsOfStrings (builtString ps) t)
+    (margin : Float) (ps : List SphericalPoint) → ClosesOnItself ps → (t : ArcString)
+    → countsOf (pairsOfStrings margin (builtString (reverse ps)) t) ≡ countsOf (pairsOfStrings margin (builtString ps) t)
 
 abbrev pub StringsTrade : Type 0
-StringsTrade = (s t : ArcString) → countsOf (pairsOfStrings t s) ≡ countsOf (pairsOfStrings s t)
+StringsTrade = (margin : Float) (s t : ArcString) → countsOf (pairsOfStrings margin t s) ≡ countsOf (pairsOfStrings margin s t)

@@ -1,6 +1,6 @@
--- Demand 3: the counts are the numbers of visited pairs in each class, and they and the clean points are the same after any list of changes. What is claimed,
--- over the very definitions that the calls' contracts cite: one record for two strings, `Demand3`, and one for a string with itself, `Demand3Self`.
--- Definitions only. The proofs are `demand-3` and `demand-3-self` of `proofs/Demand3.antt`.
+-- Demand 3: the counts are the numbers of visited pairs in each class, and they and the clean points are the same after any list of changes, at every margin,
+-- one being used throughout. What is claimed, over the very definitions that the calls' contracts cite: one record for two strings, `Demand3`, and one for a
+-- string with itself, `Demand3Self`. Definitions only. The proofs are `demand-3` and `demand-3-self` of `proofs/Demand3.antt`.
 use mathlib.Core.Path.{_≡_}
 use mathlib.Core.Bool.{Bool}
 use mathlib.Core.List.{List, [], _∷_, map, List·Permᴰ}
@@ -11,7 +11,7 @@ use Rattle.sphericalpoint.specs.declared.SphericalPoint.{SphericalPoint}
 use Rattle.arcstring_check.specs.Answer.{Answer, refused, answered}
 use Rattle.arcstring.specs.declared.inner.vertex.Vertex.{Vertex}
 use Rattle.arcstring.specs.Points.{placesOf, buoysOf, flat}
-use Rattle.arcstring_check.specs.Check.{storedCheck}
+use Rattle.arcstring_check.specs.Check.{storedCheck, marginCheck}
 use Rattle.arcstring_walk.specs.Walk.{walkBack, restart}
 use Rattle.arcstring_pair.specs.declared.pair.Pair.{Pair}
 use Rattle.arcstring_tally.specs.declared.counts.Counts.{Counts}
@@ -91,27 +91,29 @@ pointValue p = record { x = value (p .x); y = value (p .y); z = value (p .z) }
 abbrev pub SameCleanPoints : Listing → Listing → Type 0
 SameCleanPoints l m = List·Permᴰ (map pointValue (cleanPoints (l .marks))) (map pointValue (cleanPoints (m .marks)))
 
-abbrev pub countsOfTwo : TwoStrings → Answer Counts
-countsOfTwo t = counted (t .first .vertices) (t .first .closed) (t .second .vertices) (t .second .closed)
+abbrev pub countsOfTwo : Float → TwoStrings → Answer Counts
+countsOfTwo margin t = counted (t .first .vertices) (t .first .closed) (t .second .vertices) (t .second .closed) margin
 
 -- the listing of two strings into buffers of so many floats and bytes
-abbrev pub listingOfTwo : TwoStrings → ℕ → ℕ → Answer Listing
-listingOfTwo t = crossings (t .first .vertices) (t .first .closed) (t .second .vertices) (t .second .closed)
+abbrev pub listingOfTwo : Float → TwoStrings → ℕ → ℕ → Answer Listing
+listingOfTwo margin t = crossings (t .first .vertices) (t .first .closed) (t .second .vertices) (t .second .closed) margin
 
--- The counting call gives the same counts; and where both listings have room, their counts and their clean points are the same.
-pub record SameCrossings (t u : TwoStrings) : Type 0 where
-  pub same-counts : countsOfTwo t ≡ countsOfTwo u
-  pub same-listing : (p m q n : ℕ) (l k : Listing) → listingOfTwo t p m ≡ answered l → listingOfTwo u q n ≡ answered k
+-- At one margin the counting call gives the same counts; and where both listings have room, their counts and their clean points are the same. Where the margin
+-- is refused, it is so of both.
+pub record SameCrossings (margin : Float) (t u : TwoStrings) : Type 0 where
+  pub same-counts : countsOfTwo margin t ≡ countsOfTwo margin u
+  pub same-listing : (p m q n : ℕ) (l k : Listing) → listingOfTwo margin t p m ≡ answered l → listingOfTwo margin u q n ≡ answered k
       → (l .counts ≡ k .counts) × SameCleanPoints l k
 
 -- the pairs that the calls visit
-abbrev pub visitedOfTwo : TwoStrings → List Pair
-visitedOfTwo t = visited (t .first .vertices) (t .first .closed) (t .second .vertices) (t .second .closed)
+abbrev pub visitedOfTwo : Float → TwoStrings → List Pair
+visitedOfTwo margin t = visited margin (t .first .vertices) (t .first .closed) (t .second .vertices) (t .second .closed)
 
--- All of demand 3 for two strings.
+-- All of demand 3 for two strings, at every margin.
 pub record Demand3 : Type 0 where
   -- accepted strings are counted, and the counts are the numbers of visited pairs in each class
-  pub counts-are : (t : TwoStrings) → Accepted (t .first) → Accepted (t .second) → countsOfTwo t ≡ answered (countsOf (visitedOfTwo t))
+  pub counts-are : (margin : Float) → marginCheck margin ≡ 0 → (t : TwoStrings) → Accepted (t .first) → Accepted (t .second)
+      → countsOfTwo margin t ≡ answered (countsOf (visitedOfTwo margin t))
   -- they add up to legs times legs
   pub counts-add-up : CountsAddUp
   -- a listing has the counts of the counting call, so that they add up too, and its clean points are those of the clean pairs, one for each
@@ -119,7 +121,7 @@ pub record Demand3 : Type 0 where
   pub listing-adds-up : ListingAddsUp
   pub listing-of-pairs : ListingOfPairs
   -- for all accepted strings and every list of changes all of this stays
-  pub stay : (t : TwoStrings) → Accepted (t .first) → Accepted (t .second) → (cs : List Change) → SameCrossings t (changes cs t)
+  pub stay : (margin : Float) (t : TwoStrings) → Accepted (t .first) → Accepted (t .second) → (cs : List Change) → SameCrossings margin t (changes cs t)
 
 -- ---- a string against itself: backward walks alone
 
@@ -127,15 +129,15 @@ unfoldable pub walksBack : List (ℕ × ℕ) → Held → Held
 walksBack [] s = s
 walksBack (r ∷ rooms) s = walksBack rooms (walkedBack (r .0) (r .1) s)
 
-pub record SameSelfCrossings (s u : Held) : Type 0 where
-  pub same-self : (p m q n : ℕ) (l k : Listing) → selfCrossings (s .vertices) p m ≡ answered l → selfCrossings (u .vertices) q n ≡ answered k
+pub record SameSelfCrossings (margin : Float) (s u : Held) : Type 0 where
+  pub same-self : (p m q n : ℕ) (l k : Listing) → selfCrossings (s .vertices) margin p m ≡ answered l → selfCrossings (u .vertices) margin q n ≡ answered k
       → (l .counts ≡ k .counts) × SameCleanPoints l k
 
--- All of demand 3 for a string with itself.
+-- All of demand 3 for a string with itself, at every margin.
 pub record Demand3Self : Type 0 where
   -- the counts add up to half of (n - 2) * (n - 3), they are the numbers of visited pairs in each class, and the clean points are those of the clean pairs,
   -- normalised, one for each
   pub adds-up : SelfListingAddsUp
   pub of-pairs : SelfListingOfPairs
   -- for every accepted string and every list of backward walks all of this stays
-  pub stay : (s : Held) → Accepted s → (rooms : List (ℕ × ℕ)) → SameSelfCrossings s (walksBack rooms s)
+  pub stay : (margin : Float) (s : Held) → Accepted s → (rooms : List (ℕ × ℕ)) → SameSelfCrossings margin s (walksBack rooms s)

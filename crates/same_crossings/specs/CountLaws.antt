@@ -1,6 +1,6 @@
--- What is claimed of the counts and the clean points that the calls answer: the counts add up to the number of visited pairs, the counting call and the
--- listing give the same ones, the clean points are those of the clean pairs, one for each, the counts tell how much room a listing needs at most, and
--- those of a track's runs add up. Definitions only. The proofs are in `proofs/Counting.antt`, `proofs/Rooms.antt` and `proofs/Runs.antt`.
+-- What is claimed of the counts and the clean points that the calls answer, at every margin: the counts add up to the number of visited pairs, the counting
+-- call and the listing give the same ones, the clean points are those of the clean pairs, one for each, the counts tell how much room a listing needs at
+-- most, and those of a track's runs add up. Definitions only. The proofs are in `proofs/Counting.antt`, `proofs/Rooms.antt` and `proofs/Runs.antt`.
 use mathlib.Core.Path.{_≡_}
 use mathlib.Core.Bool.{Bool, false}
 use mathlib.Core.List.{List, [], _∷_, _++_, map, filterMap}
@@ -11,7 +11,7 @@ use lib.Ieee.{Float}
 use Rattle.sphericalpoint.specs.declared.SphericalPoint.{SphericalPoint}
 use Rattle.sphericalpoint.specs.Point.{normalizedUnlessShort}
 use Rattle.arcstring_check.specs.Answer.{answered}
-use Rattle.arcstring_check.specs.Check.{storedCheck}
+use Rattle.arcstring_check.specs.Check.{storedCheck, marginCheck}
 use Rattle.arcstring.specs.Points.{itself}
 use Rattle.arcstring_pair.specs.declared.pair.Pair.{Pair}
 use Rattle.arcstring_pair.specs.declared.pair.Pair.the-variants.{Clean, End, Grazing, Apart}
@@ -36,30 +36,33 @@ legsIn v closed = legCount (verticesIn v) closed
 -- two strings: legs times legs, by the counting call
 abbrev pub CountsAddUp : Type 0
 CountsAddUp =
-    (a : List Float) (aClosed : Bool) (b : List Float) (bClosed : Bool) (c : Counts) → counted a aClosed b bClosed ≡ answered c
+    (a : List Float) (aClosed : Bool) (b : List Float) (bClosed : Bool) (margin : Float) (c : Counts) → counted a aClosed b bClosed margin ≡ answered c
     → sumOfCounts c ≡ legsIn a aClosed * legsIn b bClosed
 
 -- and by the listing, which has the counts of the counting call
 abbrev pub ListingAgrees : Type 0
 ListingAgrees =
-    (a : List Float) (aClosed : Bool) (b : List Float) (bClosed : Bool) (p m : ℕ) (l : Listing) → crossings a aClosed b bClosed p m ≡ answered l
-    → counted a aClosed b bClosed ≡ answered (l .counts)
+    (a : List Float) (aClosed : Bool) (b : List Float) (bClosed : Bool) (margin : Float) (p m : ℕ) (l : Listing)
+    → crossings a aClosed b bClosed margin p m ≡ answered l
+    → counted a aClosed b bClosed margin ≡ answered (l .counts)
 
 abbrev pub ListingAddsUp : Type 0
 ListingAddsUp =
-    (a : List Float) (aClosed : Bool) (b : List Float) (bClosed : Bool) (p m : ℕ) (l : Listing) → crossings a aClosed b bClosed p m ≡ answered l
+    (a : List Float) (aClosed : Bool) (b : List Float) (bClosed : Bool) (margin : Float) (p m : ℕ) (l : Listing)
+    → crossings a aClosed b bClosed margin p m ≡ answered l
     → sumOfCounts (l .counts) ≡ legsIn a aClosed * legsIn b bClosed
 
 -- one leg and a string: the string's legs
 abbrev pub LegListingAddsUp : Type 0
 LegListingAddsUp =
-    (arc : Leg) (v : List Float) (closed : Bool) (p m : ℕ) (l : Listing) → legCrossings arc v closed p m ≡ answered l
+    (arc : Leg) (v : List Float) (closed : Bool) (margin : Float) (p m : ℕ) (l : Listing) → legCrossings arc v closed margin p m ≡ answered l
     → sumOfCounts (l .counts) ≡ legsIn v closed
 
 -- a string of n vertices with itself: half of (n - 2) * (n - 3), where a difference stops at 0, so that there are no pairs below n = 4
 abbrev pub SelfListingAddsUp : Type 0
 SelfListingAddsUp =
-    (v : List Float) (p m : ℕ) (l : Listing) → selfCrossings v p m ≡ answered l → sumOfCounts (l .counts) * 2 ≡ (verticesIn v - 2) * (verticesIn v - 3)
+    (v : List Float) (margin : Float) (p m : ℕ) (l : Listing) → selfCrossings v margin p m ≡ answered l
+    → sumOfCounts (l .counts) * 2 ≡ (verticesIn v - 2) * (verticesIn v - 3)
 
 -- ---- the clean points
 
@@ -84,17 +87,20 @@ pub record ListedOf (ps : List Pair) (written : SphericalPoint → SphericalPoin
 
 abbrev pub ListingOfPairs : Type 0
 ListingOfPairs =
-    (a : List Float) (aClosed : Bool) (b : List Float) (bClosed : Bool) (p m : ℕ) (l : Listing) → crossings a aClosed b bClosed p m ≡ answered l
-    → ListedOf (visited a aClosed b bClosed) itself l
+    (a : List Float) (aClosed : Bool) (b : List Float) (bClosed : Bool) (margin : Float) (p m : ℕ) (l : Listing)
+    → crossings a aClosed b bClosed margin p m ≡ answered l
+    → ListedOf (visited margin a aClosed b bClosed) itself l
 
 abbrev pub LegListingOfPairs : Type 0
 LegListingOfPairs =
-    (arc : Leg) (v : List Float) (closed : Bool) (p m : ℕ) (l : Listing) → legCrossings arc v closed p m ≡ answered l
-    → ListedOf (legPairs arc v closed) itself l
+    (arc : Leg) (v : List Float) (closed : Bool) (margin : Float) (p m : ℕ) (l : Listing) → legCrossings arc v closed margin p m ≡ answered l
+    → ListedOf (legPairs margin arc v closed) itself l
 
 -- of a string with itself the points are written normalised
 abbrev pub SelfListingOfPairs : Type 0
-SelfListingOfPairs = (v : List Float) (p m : ℕ) (l : Listing) → selfCrossings v p m ≡ answered l → ListedOf (selfPairs v false) normalizedUnlessShort l
+SelfListingOfPairs =
+    (v : List Float) (margin : Float) (p m : ℕ) (l : Listing) → selfCrossings v margin p m ≡ answered l
+    → ListedOf (selfPairs margin v false) normalizedUnlessShort l
 
 -- ---- room for a listing
 
@@ -105,21 +111,22 @@ Holds n floats bytes = (3 * n ≤ floats) × (n ≤ bytes)
 -- Whoever counts first, and lends that room, is not refused by 7, nor by anything else: the listing answers.
 abbrev pub CountedRoomEnough : Type 0
 CountedRoomEnough =
-    (a : List Float) (aClosed : Bool) (b : List Float) (bClosed : Bool) (p m : ℕ) (c : Counts) → counted a aClosed b bClosed ≡ answered c
-    → Holds (roomFor c) p m
-    → crossings a aClosed b bClosed p m ≡ answered (listingOf (visited a aClosed b bClosed))
+    (a : List Float) (aClosed : Bool) (b : List Float) (bClosed : Bool) (margin : Float) (p m : ℕ) (c : Counts)
+    → counted a aClosed b bClosed margin ≡ answered c → Holds (roomFor c) p m
+    → crossings a aClosed b bClosed margin p m ≡ answered (listingOf (visited margin a aClosed b bClosed))
 
 -- The same of a string with itself: what is counted is the string, open, with itself, and the pairs of the self listing are among those.
 abbrev pub SelfRoomEnough : Type 0
 SelfRoomEnough =
-    (v : List Float) (p m : ℕ) (c : Counts) → counted v false v false ≡ answered c → Holds (roomFor c) p m
-    → selfCrossings v p m ≡ answered (normalizedListing (listingOf (selfPairs v false)))
+    (v : List Float) (margin : Float) (p m : ℕ) (c : Counts) → counted v false v false margin ≡ answered c → Holds (roomFor c) p m
+    → selfCrossings v margin p m ≡ answered (normalizedListing (listingOf (selfPairs margin v false)))
 
 -- One leg with a string keeps at most a point for each leg of the string.
 abbrev pub LegRoomEnough : Type 0
 LegRoomEnough =
-    (arc : Leg) (v : List Float) (closed : Bool) (p m : ℕ) → legCheck arc ≡ 0 → storedCheck v ≡ 0 → Holds (legsIn v closed) p m
-    → legCrossings arc v closed p m ≡ answered (listingOf (legPairs arc v closed))
+    (arc : Leg) (v : List Float) (closed : Bool) (margin : Float) (p m : ℕ) → legCheck arc ≡ 0 → storedCheck v ≡ 0 → marginCheck margin ≡ 0
+    → Holds (legsIn v closed) p m
+    → legCrossings arc v closed margin p m ≡ answered (listingOf (legPairs margin arc v closed))
 
 -- ---- a long track in runs
 
@@ -131,6 +138,6 @@ addCounts c d =
 -- with any legs: here of two runs, and so of any number, one after another.
 abbrev pub RunsAddUp : Type 0
 RunsAddUp =
-    (ps : List SphericalPoint) (x : SphericalPoint) (qs : List SphericalPoint) (ls : List Leg)
-    → countsOf (pairsBetween (legs (ps ++ (x ∷ qs)) false) ls)
-    ≡ addCounts (countsOf (pairsBetween (legs (ps ++ (x ∷ [])) false) ls)) (countsOf (pairsBetween (legs (x ∷ qs) false) ls))
+    (margin : Float) (ps : List SphericalPoint) (x : SphericalPoint) (qs : List SphericalPoint) (ls : List Leg)
+    → countsOf (pairsBetween margin (legs (ps ++ (x ∷ qs)) false) ls)
+    ≡ addCounts (countsOf (pairsBetween margin (legs (ps ++ (x ∷ [])) false) ls)) (countsOf (pairsBetween margin (legs (x ∷ qs) false) ls))

@@ -54,9 +54,11 @@ ReadBack = (s : Held) (a : Answer (List Vertex)) (out : List Float) (numbers : L
 
 -- Demand 3 with such changes,
 abbrev pub Demand3InBuffers : Type 0
-Demand3InBuffers = (t : TwoStrings) → Accepted (t .first) → Accepted (t .second) → (ls : List Lending) → SameCrossings t (lendings ls t)
+Demand3InBuffers =
+    (margin : Float) (t : TwoStrings) → Accepted (t .first) → Accepted (t .second) → (ls : List Lending) → SameCrossings margin t (lendings ls t)
 
--- and so two displays that were handed the same strings, each with its own changes through its own buffers, count the same.
+-- and so two displays that were handed the same strings, each with its own changes through its own buffers, count the same at one margin.
 abbrev pub DisplaysAgree : Type 0
 DisplaysAgree =
-    (t : TwoStrings) → Accepted (t .first) → Accepted (t .second) → (ls ms : List Lending) → countsOfTwo (lendings ls t) ≡ countsOfTwo (lendings ms t)
+    (margin : Float) (t : TwoStrings) → Accepted (t .first) → Accepted (t .second) → (ls ms : List Lending)
+    → countsOfTwo margin (lendings ls t) ≡ countsOfTwo margin (lendings ms t)

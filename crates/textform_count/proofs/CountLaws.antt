@@ -9,7 +9,7 @@ use lib.ListN.{length}
 use lib.Ieee.{Float}
 use Rattle.arcstring_check.specs.Answer.{answered, refused, unlessRefused, pick}
 use Rattle.arcstring.specs.Points.{ArcString, points, flat}
-use Rattle.arcstring_check.specs.Check.{buildCheck}
+use Rattle.arcstring_check.specs.Check.{buildCheck, noMargin}
 use Rattle.arcstring_build.specs.Build.{builtString}
 use Rattle.arcstring_check.proofs.Answers.{pass, both-passed}
 use Rattle.arcstring.proofs.Flat.{points-flat, flat-points}
@@ -28,7 +28,7 @@ use Rattle.textform.proofs.inner.read.Triples.{whole-triples}
 
 between-traded : (s t : ArcString) → countsBetween t s ≡ countsBetween s t
 unfolding countsBetween
-between-traded s t = strings-trade s t
+between-traded s t = strings-trade noMargin s t
 
 module _ (a : List Float) (whole : length a % 3 ≡ 0) where
   check-reversed : buildCheck (flat (reverse (points a))) ≡ buildCheck a
@@ -39,7 +39,7 @@ module _ (a : List Float) (whole : length a % 3 ≡ 0) where
   module _ (closes : ClosesOnItself (points a)) where
     between-reversed : (t : ArcString) → countsBetween (builtString (points (flat (reverse (points a))))) t ≡ countsBetween (builtString (points a)) t
     unfolding countsBetween
-    between-reversed t = rw (points-flat (reverse (points a))) (built-reversed (points a) closes t)
+    between-reversed t = rw (points-flat (reverse (points a))) (built-reversed noMargin (points a) closes t)
 
     first-reversed : (b : List Float) → countBuilt (flat (reverse (points a))) b ≡ countBuilt a b
     unfolding countBuilt

@@ -4,7 +4,7 @@ use Prim.Native.Nat.{ℕ}
 use lib.Ieee.{Float}
 use Rattle.arcstring_check.specs.Answer.{Answer, refused, answered, unlessRefused, pick}
 use Rattle.arcstring.specs.Points.{ArcString, points}
-use Rattle.arcstring_check.specs.Check.{buildCheck}
+use Rattle.arcstring_check.specs.Check.{buildCheck, noMargin}
 use Rattle.arcstring_build.specs.Build.{builtString}
 use Rattle.arcstring.specs.Leg.{legs}
 use Rattle.arcstring_tally.specs.declared.counts.Counts.{Counts}
@@ -14,9 +14,9 @@ use Rattle.textform_count.specs.Print.{printed}
 use Rattle.textform_count.specs.declared.inner.count.Conclusion.{Conclusion}
 use Rattle.textform_count.specs.declared.inner.count.Conclusion.the-variants as C
 
--- the counts of every leg of the first with every leg of the second
+-- the counts of every leg of the first with every leg of the second, with no margin
 unfoldable pub countsBetween : ArcString → ArcString → Counts
-countsBetween a b = countsOf (pairsBetween (legs (a .vertices) (a .closed)) (legs (b .vertices) (b .closed)))
+countsBetween a b = countsOf (pairsBetween noMargin (legs (a .vertices) (a .closed)) (legs (b .vertices) (b .closed)))
 
 -- both are built, the first first: 1, 2, 3 and 4 of the first before those of the second
 unfoldable pub countBuilt : List Float → List Float → Answer Counts

@@ -2,7 +2,7 @@
 ghost use mathlib.Core.Path.{_≡_};
 ghost use Rattle.arcstring_check.specs.Answer.{firstOf};
 ghost use Rattle.arcstring_check.specs.Check.{checkNumber, inRange, allInRange, listCheck, storedCheck, stringCheck, buildingCheck, pointsCheck};
-ghost use Rattle.arcstring_check.specs.Check.{pointCheck, roomCheck};
+ghost use Rattle.arcstring_check.specs.Check.{pointCheck, marginCheck, roomCheck};
 use crate::check::Checked;
 use crate::check::MOST_POINTS;
 use crate::check::Refusal;
@@ -102,6 +102,17 @@ pub fn check_point(p: SphericalPoint) -> Checked
         Checked::Accepted
     } else {
         Checked::Refused(Refusal::OutOfRange)
+    }
+}
+
+// A margin: from 0 on, -0 too, and finite. One over zero is the infinity.
+pub fn check_margin(margin: f64) -> Checked
+    ensures { λ r. ⌜ checkNumber r ≡ marginCheck margin ⌝ }
+{
+    if (0.0 <= margin) & (margin < 1.0 / 0.0) {
+        Checked::Accepted
+    } else {
+        Checked::Refused(Refusal::MarginOutOfRange)
     }
 }
 

@@ -113,7 +113,7 @@ pub fn keep_planes(v: &[f64], n: usize, l: usize, planes: &mut [f64], width: usi
     }
 }
 
-// The class of a pair of legs, by the plane of each: the second is leg k of a string, whose planes are kept.
+// The class of a pair of legs at a margin, by the plane of each: the second is leg k of a string, whose planes are kept.
 pub fn pair_at(
     arc: [[f64; 3]; 2],
     plane: Plane,
@@ -122,27 +122,29 @@ pub fn pair_at(
     v: &[f64],
     n: usize,
     k: usize,
+    margin: f64,
 ) -> Pair
     requires { ⌜ (length (now v) ≡ 3 * n) × (k < n) × (9 * width ≤ length (now planes)) × (k < width) × (width ≤ mostPoints) ⌝ }
     requires { ⌜ (plane ≡ planeOf (legOf arc)) × PlaneAt (now planes) width k (planeOf (legAt (now v) n k)) ⌝ }
-    ensures { λ r. ⌜ r ≡ pairOf (legOf arc) (legAt (now (v .entry)) n k) ⌝ }
+    ensures { λ r. ⌜ r ≡ pairOf margin (legOf arc) (legAt (now (v .entry)) n k) ⌝ }
 {
     let other = plane_at(planes, width, k);
     let t = sphericalpoint::xyz_cross(plane.normal, other.normal);
     let s = side_values(plane, other, t);
-    class::class_at(t, arc, leg::leg_at(v, n, k), s)
+    class::class_at(t, arc, leg::leg_at(v, n, k), s, margin)
 }
 
 // 0 only where leg k's pair is apart: its side values show it. With no branch, so that a pass over many legs works out
 // several at a time.
-fn flag_at(plane: Plane, planes: &[f64], width: usize, k: usize) -> usize
+fn flag_at(plane: Plane, planes: &[f64], width: usize, k: usize, margin: f64) -> usize
     requires { ⌜ (9 * width ≤ length (now planes)) × (k < width) × (width ≤ mostPoints) ⌝ }
-    ensures { λ r. ⌜ (r ≤ 1) × ((a x : Leg) → plane ≡ planeOf a → PlaneAt (now (planes .entry)) width k (planeOf x) → r ≡ 0 → Apart ≡ pairOf a x) ⌝ }
+    ensures { λ r. ⌜ (r ≤ 1) × ((a x : Leg) → plane ≡ planeOf a → PlaneAt (now (planes .entry)) width k (planeOf x) → r ≡ 0
+        → Apart ≡ pairOf margin a x) ⌝ }
 {
     let other = plane_at(planes, width, k);
     let t = sphericalpoint::xyz_cross(plane.normal, other.normal);
     let s = side_values(plane, other, t);
-    if arcstring_sides::inner::shows_apart(s) {
+    if arcstring_sides::inner::shows_apart(s, margin) {
         0
     } else {
         1
@@ -156,16 +158,17 @@ pub fn flag_row(
     width: usize,
     from: usize,
     to: usize,
+    margin: f64,
     flags: &mut [usize],
 ) -> usize
     requires { ⌜ (9 * width ≤ length (now planes)) × (to ≤ width) × (width ≤ mostPoints) × (to ≤ length (now flags)) ⌝ }
-    ensures { λ r. ⌜ (r ≡ 0 → AllApart plane (now (planes .entry)) width from to) ⌝ }
-    ensures { λ _. ⌜ FlagsOf plane (now (planes .entry)) width from to (now (flags .exit)) ⌝ }
+    ensures { λ r. ⌜ (r ≡ 0 → AllApart margin plane (now (planes .entry)) width from to) ⌝ }
+    ensures { λ _. ⌜ FlagsOf margin plane (now (planes .entry)) width from to (now (flags .exit)) ⌝ }
 {
     let mut found = 0;
     let mut k = from;
     while k < to {
-        let f = flag_at(plane, planes, width, k);
+        let f = flag_at(plane, planes, width, k, margin);
         flags[k] = f;
         found += f;
         k += 1;

@@ -22,7 +22,7 @@ fn at_end(p: SphericalPoint, arc_a: [[f64; 3]; 2], arc_b: [[f64; 3]; 2]) -> bool
         | sphericalpoint::xyz_eq(p, leg::end_of(arc_b))
 }
 
-// The signs agree, some by a zero's: the listings drop the point if it is one of the four ends, else they keep it.
+// The sign bits of a grazing pair agree: the listings drop the point if it is one of the four ends, else they keep it.
 fn kept_or_dropped(point: SphericalPoint, arc_a: [[f64; 3]; 2], arc_b: [[f64; 3]; 2]) -> Outcome
     ensures { λ r. ⌜ r ≡ keptOrDropped point (legOf «arc_a») (legOf «arc_b») ⌝ }
 {
@@ -62,11 +62,17 @@ fn end_or_clean(p: SphericalPoint, arc_a: [[f64; 3]; 2], arc_b: [[f64; 3]; 2]) -
     }
 }
 
-// The class by the four side values.
-pub fn class_at(t: SphericalPoint, arc_a: [[f64; 3]; 2], arc_b: [[f64; 3]; 2], s: [f64; 4]) -> Pair
-    ensures { λ r. ⌜ r ≡ classAt t (legOf «arc_a») (legOf «arc_b») s ⌝ }
+// The class by the four side values and the margin.
+pub fn class_at(
+    t: SphericalPoint,
+    arc_a: [[f64; 3]; 2],
+    arc_b: [[f64; 3]; 2],
+    s: [f64; 4],
+    margin: f64,
+) -> Pair
+    ensures { λ r. ⌜ r ≡ classAt margin t (legOf «arc_a») (legOf «arc_b») s ⌝ }
 {
-    if some_grazing(s) {
+    if some_grazing(s, margin) {
         return Pair::Grazing(grazing_outcome(t, arc_a, arc_b, s));
     }
     if all_above(s) {

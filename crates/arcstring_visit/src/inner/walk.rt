@@ -31,6 +31,7 @@ fn walk_found(
     v: &[f64],
     n: usize,
     l: usize,
+    margin: f64,
     write: bool,
     points: &mut [f64],
     marks: &mut [u8],
@@ -39,15 +40,15 @@ fn walk_found(
     requires { ⌜ (length (now v) ≡ 3 * n) × (l ≤ n) × (n ≤ mostPoints) × (tallySum start + 2 * m < 4294967296) × (plane ≡ planeOf (legOf arc))
         × PlanesOf (now v) n l (now planes) width ⌝ }
     requires { ⌜ (m ≤ length (now flagged)) × ((j : ℕ) → j < m → getD (now flagged) j 0 < l) ⌝ }
-    requires { ⌜ RoomIf write (foundPairs (legOf arc) (now v) n (now flagged) 0 m) (start .kept) (now points) (now marks) ⌝ }
-    ensures { λ r. ⌜ r ≡ tallyOn start (foundPairs (legOf arc) (now (v .entry)) n (now (flagged .entry)) 0 m) ⌝ }
-    ensures { λ _. ⌜ WrittenIf write (foundPairs (legOf arc) (now (v .entry)) n (now (flagged .entry)) 0 m) (start .kept)
+    requires { ⌜ RoomIf write (foundPairs margin (legOf arc) (now v) n (now flagged) 0 m) (start .kept) (now points) (now marks) ⌝ }
+    ensures { λ r. ⌜ r ≡ tallyOn start (foundPairs margin (legOf arc) (now (v .entry)) n (now (flagged .entry)) 0 m) ⌝ }
+    ensures { λ _. ⌜ WrittenIf write (foundPairs margin (legOf arc) (now (v .entry)) n (now (flagged .entry)) 0 m) (start .kept)
         (now (points .entry)) (now (marks .entry)) (now (points .exit)) (now (marks .exit)) ⌝ }
 {
     let mut t = start;
     let mut j = 0;
     while j < m {
-        let p = planes::pair_at(arc, plane, planes, width, v, n, flagged[j]);
+        let p = planes::pair_at(arc, plane, planes, width, v, n, flagged[j], margin);
         tally::store_if(write, points, marks, t.kept, p);
         t = tally::add(t, p);
         j += 1;
@@ -68,6 +69,7 @@ fn walk_row(
     n: usize,
     from: usize,
     to: usize,
+    margin: f64,
     write: bool,
     points: &mut [f64],
     marks: &mut [u8],
@@ -76,12 +78,12 @@ fn walk_row(
     requires { ⌜ (length (now v) ≡ 3 * n) × (to ≤ n) × (n ≤ mostPoints) × (tallySum start + 2 * n < 4294967296) × (plane ≡ planeOf (legOf arc))
         × PlanesOf (now v) n to (now planes) width ⌝ }
     requires { ⌜ (to ≤ length (now flags)) × (to ≤ length (now flagged)) ⌝ }
-    requires { ⌜ RoomIf write (rowPairs (legOf arc) (now v) from to) (start .kept) (now points) (now marks) ⌝ }
-    ensures { λ r. ⌜ r ≡ tallyOn start (rowPairs (legOf arc) (now (v .entry)) from to) ⌝ }
-    ensures { λ _. ⌜ WrittenIf write (rowPairs (legOf arc) (now (v .entry)) from to) (start .kept)
+    requires { ⌜ RoomIf write (rowPairs margin (legOf arc) (now v) from to) (start .kept) (now points) (now marks) ⌝ }
+    ensures { λ r. ⌜ r ≡ tallyOn start (rowPairs margin (legOf arc) (now (v .entry)) from to) ⌝ }
+    ensures { λ _. ⌜ WrittenIf write (rowPairs margin (legOf arc) (now (v .entry)) from to) (start .kept)
         (now (points .entry)) (now (marks .entry)) (now (points .exit)) (now (marks .exit)) ⌝ }
 {
-    let found = planes::flag_row(plane, planes, width, from, to, flags);
+    let found = planes::flag_row(plane, planes, width, from, to, margin, flags);
     if found == 0 {
         return tally::add_apart(start, from, to, 0);
     }
@@ -97,6 +99,7 @@ fn walk_row(
         v,
         n,
         to,
+        margin,
         write,
         points,
         marks,
@@ -126,6 +129,7 @@ fn walk(
     width: usize,
     flags: &mut [usize],
     flagged: &mut [usize],
+    margin: f64,
     write: bool,
     points: &mut [f64],
     marks: &mut [u8],
@@ -134,9 +138,9 @@ fn walk(
     requires { ⌜ (length (now b) ≡ 3 * nb) × (lb ≤ nb) × (nb ≤ mostPoints) × PlanesOf (now b) nb lb (now planes) width × (lb ≤ length (now flags))
         × (lb ≤ length (now flagged)) ⌝ }
     requires { ⌜ (within ≡ true → (now a ≡ now b) × (la ≡ lb)) ⌝ }
-    requires { ⌜ RoomIf write (visitsFrom within (now a) 0 la (now b) lb) 0 (now points) (now marks) ⌝ }
-    ensures { λ r. ⌜ r ≡ tallyOn noTally (visitsFrom within (now (a .entry)) 0 la (now (b .entry)) lb) ⌝ }
-    ensures { λ _. ⌜ WrittenIf write (visitsFrom within (now (a .entry)) 0 la (now (b .entry)) lb) 0
+    requires { ⌜ RoomIf write (visitsFrom margin within (now a) 0 la (now b) lb) 0 (now points) (now marks) ⌝ }
+    ensures { λ r. ⌜ r ≡ tallyOn noTally (visitsFrom margin within (now (a .entry)) 0 la (now (b .entry)) lb) ⌝ }
+    ensures { λ _. ⌜ WrittenIf write (visitsFrom margin within (now (a .entry)) 0 la (now (b .entry)) lb) 0
         (now (points .entry)) (now (marks .entry)) (now (points .exit)) (now (marks .exit)) ⌝ }
 {
     let mut t = tally::none();
@@ -156,6 +160,7 @@ fn walk(
             nb,
             from,
             lb,
+            margin,
             write,
             points,
             marks,
@@ -175,6 +180,7 @@ fn visit_short(
     nb: usize,
     lb: usize,
     within: bool,
+    margin: f64,
     write: bool,
     points: &mut [f64],
     marks: &mut [u8],
@@ -182,9 +188,9 @@ fn visit_short(
     requires { ⌜ (length (now a) ≡ 3 * na) × (la ≤ na) × (na ≤ mostPoints) ⌝ }
     requires { ⌜ (length (now b) ≡ 3 * nb) × (lb ≤ nb) × (nb ≤ mostPoints) × (lb ≤ shortPoints) ⌝ }
     requires { ⌜ (within ≡ true → (now a ≡ now b) × (la ≡ lb)) ⌝ }
-    requires { ⌜ RoomIf write (visitsFrom within (now a) 0 la (now b) lb) 0 (now points) (now marks) ⌝ }
-    ensures { λ r. ⌜ r ≡ tallyOn noTally (visitsFrom within (now (a .entry)) 0 la (now (b .entry)) lb) ⌝ }
-    ensures { λ _. ⌜ WrittenIf write (visitsFrom within (now (a .entry)) 0 la (now (b .entry)) lb) 0
+    requires { ⌜ RoomIf write (visitsFrom margin within (now a) 0 la (now b) lb) 0 (now points) (now marks) ⌝ }
+    ensures { λ r. ⌜ r ≡ tallyOn noTally (visitsFrom margin within (now (a .entry)) 0 la (now (b .entry)) lb) ⌝ }
+    ensures { λ _. ⌜ WrittenIf write (visitsFrom margin within (now (a .entry)) 0 la (now (b .entry)) lb) 0
         (now (points .entry)) (now (marks .entry)) (now (points .exit)) (now (marks .exit)) ⌝ }
 {
     let mut planes = [0.0; 9 * SHORT_POINTS];
@@ -203,6 +209,7 @@ fn visit_short(
         SHORT_POINTS,
         &mut flags,
         &mut flagged,
+        margin,
         write,
         points,
         marks,
@@ -218,6 +225,7 @@ fn visit_long(
     nb: usize,
     lb: usize,
     within: bool,
+    margin: f64,
     write: bool,
     points: &mut [f64],
     marks: &mut [u8],
@@ -225,9 +233,9 @@ fn visit_long(
     requires { ⌜ (length (now a) ≡ 3 * na) × (la ≤ na) × (na ≤ mostPoints) ⌝ }
     requires { ⌜ (length (now b) ≡ 3 * nb) × (lb ≤ nb) × (nb ≤ mostPoints) ⌝ }
     requires { ⌜ (within ≡ true → (now a ≡ now b) × (la ≡ lb)) ⌝ }
-    requires { ⌜ RoomIf write (visitsFrom within (now a) 0 la (now b) lb) 0 (now points) (now marks) ⌝ }
-    ensures { λ r. ⌜ r ≡ tallyOn noTally (visitsFrom within (now (a .entry)) 0 la (now (b .entry)) lb) ⌝ }
-    ensures { λ _. ⌜ WrittenIf write (visitsFrom within (now (a .entry)) 0 la (now (b .entry)) lb) 0
+    requires { ⌜ RoomIf write (visitsFrom margin within (now a) 0 la (now b) lb) 0 (now points) (now marks) ⌝ }
+    ensures { λ r. ⌜ r ≡ tallyOn noTally (visitsFrom margin within (now (a .entry)) 0 la (now (b .entry)) lb) ⌝ }
+    ensures { λ _. ⌜ WrittenIf write (visitsFrom margin within (now (a .entry)) 0 la (now (b .entry)) lb) 0
         (now (points .entry)) (now (marks .entry)) (now (points .exit)) (now (marks .exit)) ⌝ }
 {
     let mut planes = [0.0; 9 * MOST_POINTS];
@@ -246,6 +254,7 @@ fn visit_long(
         MOST_POINTS,
         &mut flags,
         &mut flagged,
+        margin,
         write,
         points,
         marks,
@@ -263,6 +272,7 @@ pub fn visit(
     nb: usize,
     lb: usize,
     within: bool,
+    margin: f64,
     write: bool,
     points: &mut [f64],
     marks: &mut [u8],
@@ -270,34 +280,66 @@ pub fn visit(
     requires { ⌜ (length (now a) ≡ 3 * na) × (la ≤ na) × (na ≤ mostPoints) ⌝ }
     requires { ⌜ (length (now b) ≡ 3 * nb) × (lb ≤ nb) × (nb ≤ mostPoints) ⌝ }
     requires { ⌜ (within ≡ true → (now a ≡ now b) × (la ≡ lb)) ⌝ }
-    requires { ⌜ RoomIf write (visitsFrom within (now a) 0 la (now b) lb) 0 (now points) (now marks) ⌝ }
-    ensures { λ r. ⌜ r ≡ tallyOn noTally (visitsFrom within (now (a .entry)) 0 la (now (b .entry)) lb) ⌝ }
-    ensures { λ _. ⌜ WrittenIf write (visitsFrom within (now (a .entry)) 0 la (now (b .entry)) lb) 0
+    requires { ⌜ RoomIf write (visitsFrom margin within (now a) 0 la (now b) lb) 0 (now points) (now marks) ⌝ }
+    ensures { λ r. ⌜ r ≡ tallyOn noTally (visitsFrom margin within (now (a .entry)) 0 la (now (b .entry)) lb) ⌝ }
+    ensures { λ _. ⌜ WrittenIf write (visitsFrom margin within (now (a .entry)) 0 la (now (b .entry)) lb) 0
         (now (points .entry)) (now (marks .entry)) (now (points .exit)) (now (marks .exit)) ⌝ }
 {
     if lb <= SHORT_POINTS {
-        return visit_short(a, na, la, b, nb, lb, within, write, points, marks);
+        return visit_short(a, na, la, b, nb, lb, within, margin, write, points, marks);
     }
-    visit_long(a, na, la, b, nb, lb, within, write, points, marks)
+    visit_long(a, na, la, b, nb, lb, within, margin, write, points, marks)
 }
 
 // The first `la` legs of a string against the first `lb` legs of another.
-pub fn count_between(a: &[f64], na: usize, la: usize, b: &[f64], nb: usize, lb: usize) -> Tally
+pub fn count_between(
+    a: &[f64],
+    na: usize,
+    la: usize,
+    b: &[f64],
+    nb: usize,
+    lb: usize,
+    margin: f64,
+) -> Tally
     requires { ⌜ (length (now a) ≡ 3 * na) × (la ≤ na) × (na ≤ mostPoints) ⌝ }
     requires { ⌜ (length (now b) ≡ 3 * nb) × (lb ≤ nb) × (nb ≤ mostPoints) ⌝ }
-    ensures { λ r. ⌜ r ≡ tallyOn noTally (pairsBetween (legsFrom (now (a .entry)) 0 la) (legsFrom (now (b .entry)) 0 lb)) ⌝ }
+    ensures { λ r. ⌜ r ≡ tallyOn noTally (pairsBetween margin (legsFrom (now (a .entry)) 0 la) (legsFrom (now (b .entry)) 0 lb)) ⌝ }
 {
     let mut points = [0.0; 1];
     let mut marks = [0u8; 1];
-    visit(a, na, la, b, nb, lb, false, false, &mut points, &mut marks)
+    visit(
+        a,
+        na,
+        la,
+        b,
+        nb,
+        lb,
+        false,
+        margin,
+        false,
+        &mut points,
+        &mut marks,
+    )
 }
 
 // The first `l` legs of a string, each against those after the next one.
-pub fn count_within(v: &[f64], n: usize, l: usize) -> Tally
+pub fn count_within(v: &[f64], n: usize, l: usize, margin: f64) -> Tally
     requires { ⌜ (length (now v) ≡ 3 * n) × (l ≤ n) × (n ≤ mostPoints) ⌝ }
-    ensures { λ r. ⌜ r ≡ tallyOn noTally (pairsWithin (legsFrom (now (v .entry)) 0 l)) ⌝ }
+    ensures { λ r. ⌜ r ≡ tallyOn noTally (pairsWithin margin (legsFrom (now (v .entry)) 0 l)) ⌝ }
 {
     let mut points = [0.0; 1];
     let mut marks = [0u8; 1];
-    visit(v, n, l, v, n, l, true, false, &mut points, &mut marks)
+    visit(
+        v,
+        n,
+        l,
+        v,
+        n,
+        l,
+        true,
+        margin,
+        false,
+        &mut points,
+        &mut marks,
+    )
 }

@@ -52,7 +52,7 @@ fn build_plain(v: &[f64], out: &mut [f64]) -> Built
     build::build(v, &none[..n], out, &mut numbers)
 }
 
-// Two lists of points built, the first first, and the pairs of their legs counted. What is built is never refused there.
+// Two lists of points built, the first first, and the pairs of their legs counted with no margin. What is built is never refused there.
 fn count_built(a: &[f64], b: &[f64]) -> Conclusion
     requires { ⌜ (length (now a) ≤ floatsKept) × (length (now b) ≤ floatsKept) ⌝ }
     ensures { λ r. ⌜ conclusionAnswer r ≡ countBuilt (now (a .entry)) (now (b .entry)) ⌝ }
@@ -74,6 +74,7 @@ fn count_built(a: &[f64], b: &[f64]) -> Conclusion
                         closed,
                         &second[..m_end],
                         other_closed,
+                        0.0,
                     ))
                 }
             }

@@ -21,7 +21,7 @@ returns : tie.Need-returns
 returns c =
     let call = c .before .before in
     let h = rw (call .before .before .is-closed .ensures, call .before .is-closed2 .ensures) at (call .count .ensures) in
-    one-as fourCounts (counted _ _ _ _) _ h (c .put-counts .ensures)
+    one-as fourCounts (counted _ _ _ _ _) _ h (c .put-counts .ensures)
 
 pub arcstring-count-spec : {M : Type 1} → statement M
 arcstring-count-spec =

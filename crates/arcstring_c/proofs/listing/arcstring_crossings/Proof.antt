@@ -27,7 +27,7 @@ returns : tie.Need-returns
 returns c =
     let call = c .before .before .before .before .before .before .before in
     let w = rw (call .before .before .before .before .is-closed .ensures, call .before .before .before .is-closed2 .ensures) at (call .crossings .ensures) in
-    let q = listed-as (crossings _ _ _ _ _ _) _ _ (w .0) (c .put-listing .ensures) in
+    let q = listed-as (crossings _ _ _ _ _ _ _) _ _ (w .0) (c .put-listing .ensures) in
     (q .0, (w .1 .0, (w .1 .1, q .1)))
 
 pub arcstring-crossings-spec : {M : Type 1} → statement M

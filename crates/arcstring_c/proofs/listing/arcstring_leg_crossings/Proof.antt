@@ -28,7 +28,7 @@ returns c =
     let call = c .before .before .before .before .before .before .before in
     let flag = call .before .before .before in
     let w = rw (flag .before .leg-of-six .ensures, flag .is-closed .ensures) at (call .arc-crossings-with-arcstring .ensures) in
-    let q = listed-as (legCrossings _ _ _ _ _) _ _ (w .0) (c .put-listing .ensures) in
+    let q = listed-as (legCrossings _ _ _ _ _ _) _ _ (w .0) (c .put-listing .ensures) in
     (q .0, (w .1 .0, (w .1 .1, q .1)))
 
 pub arcstring-leg-crossings-spec : {M : Type 1} → statement M

@@ -21,7 +21,7 @@ returns : tie.Need-returns
 returns c =
     let call = c .before .before .before .before .before .before .before in
     let w = call .crossings-with-self .ensures in
-    let q = listed-as (selfCrossings _ _ _) _ _ (w .0) (c .put-listing .ensures) in
+    let q = listed-as (selfCrossings _ _ _ _) _ _ (w .0) (c .put-listing .ensures) in
     (q .0, (w .1 .0, (w .1 .1, q .1)))
 
 pub arcstring-crossings-with-self-spec : {M : Type 1} → statement M

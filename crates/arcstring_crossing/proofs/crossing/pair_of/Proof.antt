@@ -1,5 +1,6 @@
 -- The class of a pair of legs that are arrays, by the test that the walk makes. Assumes nothing.
 use native.Mathlib.Omega.{arith}
+use lib.Ieee.{ofBits}
 use Rattle.arcstring_crossing.proofs.KeptPlanes.{pair-with}
 use Rattle.arcstring.proofs.Legs.{leg-as}
 use borrow.Author.Needs.{needs}
@@ -32,7 +33,8 @@ pair-at-requires c κs = let w = c .before .before .before .before .keep-planes 
     ((search needs, omega arith, w .long, omega arith, w .narrow), (c .before .before .plane-of .ensures, w .each 0 (omega arith)))
 
 returns : tie.Need-returns
-returns c = pair-with _ _ _ _ (c .pair-at .ensures) (leg-as _ _ (c .before .before .before .before .before .before .before .before .leg-string .ensures))
+unfolding ofBits
+returns c = pair-with _ _ _ _ _ (c .pair-at .ensures) (leg-as _ _ (c .before .before .before .before .before .before .before .before .leg-string .ensures))
 
 pub pair-of-spec : {M : Type 1} → statement M
 pair-of-spec =

@@ -16,10 +16,10 @@ start c = c .before .before .before .before
 
 -- the legs of the walk are the strings' own
 visits : (c : tie.After-leg-count2) → let s = start c in
-    pairsBetween (legsFrom (s .args .a .now) 0 (c .before .leg-count .result)) (legsFrom (s .args .b .now) 0 (c .leg-count2 .result))
-    ≡ visited (s .args .a .now) (s .args .a-closed) (s .args .b .now) (s .args .b-closed)
+    pairsBetween (s .args .margin) (legsFrom (s .args .a .now) 0 (c .before .leg-count .result)) (legsFrom (s .args .b .now) 0 (c .leg-count2 .result))
+    ≡ visited (s .args .margin) (s .args .a .now) (s .args .a-closed) (s .args .b .now) (s .args .b-closed)
 visits c = let p = start c .pre in
-    two-visits _ _ _ _ _ _ (p .0) (c .before .leg-count .ensures .0) (p .1) (c .leg-count2 .ensures .0)
+    two-visits _ _ _ _ _ _ _ (p .0) (c .before .leg-count .ensures .0) (p .1) (c .leg-count2 .ensures .0)
 
 leg-count-requires : tie.Need-leg-count-requires
 leg-count-requires c κs = stored-some _ (c .before .before .pre .0)
@@ -37,7 +37,7 @@ returns : tie.Need-returns
 returns c =
     let p = start (c .before) .pre in
     tallied _ _ _ _ (visits (c .before)) refl (c .count-between .ensures)
-    (between-few _ _ _ _ (le-trans (c .before .before .leg-count .ensures .1) (stored-whole _ (p .0) .at-most))
+    (between-few _ _ _ _ _ (le-trans (c .before .before .leg-count .ensures .1) (stored-whole _ (p .0) .at-most))
     (le-trans (c .before .leg-count2 .ensures .1) (stored-whole _ (p .1) .at-most)))
 
 pub tally-two-spec : {M : Type 1} → statement M

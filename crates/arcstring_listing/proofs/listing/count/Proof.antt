@@ -1,8 +1,8 @@
--- A refusal of the first string, then of the second, else the counts of all pairs. Assumes nothing.
+-- A refusal of the first string, of the second and of the margin, else the counts of all pairs. Assumes nothing.
 use mathlib.Core.List.{[], _∷_}
 use mathlib.Core.Path.{_≡_, ap, _∙_}
 use Rattle.arcstring_check.specs.Answer.{Answer, answered, unlessRefused, firstOf}
-use Rattle.arcstring_check.specs.Check.{checkNumber, storedCheck}
+use Rattle.arcstring_check.specs.Check.{checkNumber, storedCheck, marginCheck}
 use Rattle.arcstring_check.proofs.Answers.{refused-in-turn, accepted-in-turn, both-numbers, passed-in-turn}
 use Rattle.arcstring_tally.specs.declared.counts.Counts.{Counts}
 use Rattle.arcstring_listing.specs.Listing.{counted}
@@ -13,25 +13,25 @@ use Rattle.arcstring_listing.proofs.listing.count.Tie as tie
 abbrev start : tie.After-first-of → tie.Start
 start c = c .before .before .before .before .before
 
--- the two checks
+-- the checks
 number : (c : tie.After-first-of) → let s = start c in
-    checkNumber (c .first-of .result) ≡ firstOf (storedCheck (s .args .a .now)) (storedCheck (s .args .b .now))
-number c = c .first-of .ensures ∙ both-numbers (c .before .before .check-stored .ensures) (c .before .check-stored2 .ensures)
+    checkNumber (c .first-of .result) ≡ firstOf (storedCheck (s .args .a .now)) (firstOf (storedCheck (s .args .b .now)) (marginCheck (s .args .margin)))
+number c = c .first-of .ensures ∙ both-numbers (c .before .before .check-stored .ensures) (c .before .check-last .ensures)
 
--- both accept, so what follows is the answer
+-- all accept, so what follows is the answer
 accepted : (c : tie.After-enum-told) → let s = start (c .before .before) in
-    (storedCheck (s .args .a .now) ≡ 0) × (storedCheck (s .args .b .now) ≡ 0)
-accepted c = passed-in-turn _ (storedCheck _) (storedCheck _ ∷ []) (c .enum-told .given .1) (number (c .before .before))
+    (storedCheck (s .args .a .now) ≡ 0) × ((storedCheck (s .args .b .now) ≡ 0) × (marginCheck (s .args .margin) ≡ 0))
+accepted c = passed-in-turn _ (storedCheck _) (storedCheck _ ∷ marginCheck _ ∷ []) (c .enum-told .given .1) (number (c .before .before))
 
 follows : (c : tie.After-enum-told) (x : Answer Counts) → let s = start (c .before .before) in
-    x ≡ unlessRefused (storedCheck (s .args .a .now)) (unlessRefused (storedCheck (s .args .b .now)) x)
-follows c x = accepted-in-turn _ (storedCheck _) (storedCheck _ ∷ []) x (c .enum-told .given .1) (number (c .before .before))
+    x ≡ unlessRefused (storedCheck (s .args .a .now)) (unlessRefused (storedCheck (s .args .b .now)) (unlessRefused (marginCheck (s .args .margin)) x))
+follows c x = accepted-in-turn _ (storedCheck _) (storedCheck _ ∷ marginCheck _ ∷ []) x (c .enum-told .given .1) (number (c .before .before))
 
 check-stored-requires : tie.Need-check-stored-requires
 check-stored-requires c κs = tt
 
-check-stored-requires-2 : tie.Need-check-stored-requires-2
-check-stored-requires-2 c κs = tt
+check-last-requires : tie.Need-check-last-requires
+check-last-requires c κs = tt
 
 first-of-requires : tie.Need-first-of-requires
 first-of-requires c κs = tt
@@ -43,14 +43,14 @@ enum-told : tie.Need-enum-told
 enum-told c = c .match .keys2
 
 tally-two-requires : tie.Need-tally-two-requires
-tally-two-requires c κs = accepted c
+tally-two-requires c κs = (accepted c .0, accepted c .1 .0)
 
 counts-of-requires : tie.Need-counts-of-requires
 counts-of-requires c κs = tt
 
 returns : tie.Need-returns
 unfolding counted
-returns c = refused-in-turn _ _ (storedCheck _) (storedCheck _ ∷ []) _ (c .before .checked .given .1) (number (c .before .before .before))
+returns c = refused-in-turn _ _ (storedCheck _) (storedCheck _ ∷ marginCheck _ ∷ []) _ (c .before .checked .given .1) (number (c .before .before .before))
 
 returns-2 : tie.Need-returns-2
 unfolding counted
@@ -61,7 +61,7 @@ count-spec =
     tie.close
     (tie.spec
     check-stored-requires
-    check-stored-requires-2
+    check-last-requires
     first-of-requires
     enum-known-checked
     enum-told

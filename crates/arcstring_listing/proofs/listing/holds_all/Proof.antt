@@ -3,6 +3,7 @@ use Prim.Native.Nat.{_*_, _≤_}
 use native.Mathlib.Nat.{le-trans}
 use borrow.Author.Tests.{leb-true}
 use lib.ListN.{length}
+use lib.Ieee.{Float}
 use Rattle.ieee754.proofs.Tests.{never}
 use Rattle.arcstring_visit.specs.Visit.{mostPairs}
 use Rattle.arcstring_check.proofs.Checks.{stored-whole, stored-some}
@@ -20,11 +21,11 @@ small c = let p = c .before .before .before .before .pre in
     (le-trans (c .leg-count2 .ensures .1) (stored-whole _ (p .1) .at-most))
 
 -- all pairs keep at most one point each
-kept : (c : tie.After-leg-count2) → length (keptMarks (visited (c .before .before .before .before .args .a .now)
+kept : (c : tie.After-leg-count2) (margin : Float) → length (keptMarks (visited margin (c .before .before .before .before .args .a .now)
     (c .before .before .before .before .args .a-closed) (c .before .before .before .before .args .b .now)
     (c .before .before .before .before .args .b-closed))) ≤ (c .before .leg-count .result) * (c .leg-count2 .result)
-kept c = let p = c .before .before .before .before .pre in
-    kept-two _ _ _ _ _ _ (p .0) (c .before .leg-count .ensures .0) (p .1) (c .leg-count2 .ensures .0)
+kept c margin = let p = c .before .before .before .before .pre in
+    kept-two margin _ _ _ _ _ _ (p .0) (c .before .leg-count .ensures .0) (p .1) (c .leg-count2 .ensures .0)
 
 leg-count-requires : tie.Need-leg-count-requires
 leg-count-requires c κs = stored-some _ (c .before .before .pre .0)
@@ -39,7 +40,7 @@ mul-if1 : tie.Need-mul-if1
 mul-if1 c = points-fit _ (small c)
 
 returns : tie.Need-returns
-returns c = λ e. let k = kept (c .before) in (points-held _ _ _ k (c .if1 .taken), le-trans k (leb-true _ _ e))
+returns c = λ e margin. let k = kept (c .before) margin in (points-held _ _ _ k (c .if1 .taken), le-trans k (leb-true _ _ e))
 
 returns-2 : tie.Need-returns-2
 returns-2 c = λ e. never e

@@ -14,23 +14,23 @@ visit-two-requires : tie.Need-visit-two-requires
 visit-two-requires c κs = (
   c .before .before .before .before .before .before .before .before .pre,
   c .before .before .before .holds-all .ensures
-      (c .before .before .if1 .taken),
+      (c .before .before .if1 .taken) _,
 )
 
 counts-of-requires : tie.Need-counts-of-requires
 counts-of-requires c κs = tt
 
 same-length : tie.Need-same-length
-same-length c = c .before .before .before .before .before .visit-two .kept .1 .1 .1 .1 .0
+same-length c = c .before .before .before .before .before .visit-two .kept .1 .1 .1 .1 .1 .0
 
 same-length-2 : tie.Need-same-length-2
-same-length-2 c = c .before .before .before .before .before .visit-two .kept .1 .1 .1 .1 .1 .0
+same-length-2 c = c .before .before .before .before .before .visit-two .kept .1 .1 .1 .1 .1 .1 .0
 
 returns : tie.Need-returns
 unfolding listingOf
 returns c = let w = c .before .before .before .before .before .visit-two .ensures in
     fitting-leaves _ _ (lists-plain _) _ _ _ _ _ _ _ (w .0) (c .before .before .before .before .before .before .before .before .before .holds-all .ensures
-    (c .before .before .before .before .before .before .before .before .if1 .taken)) refl (c .counts-of .ensures) (w .1 .0) (w .1 .1)
+    (c .before .before .before .before .before .before .before .before .if1 .taken) _) refl (c .counts-of .ensures) (w .1 .0) (w .1 .1)
 
 tally-two-requires : tie.Need-tally-two-requires
 tally-two-requires c κs = c .before .before .before .before .before .before .pre
@@ -60,10 +60,10 @@ counts-of-requires-2 : tie.Need-counts-of-requires-2
 counts-of-requires-2 c κs = tt
 
 same-length-3 : tie.Need-same-length-3
-same-length-3 c = c .before .before .before .before .before .write-two .kept .1 .1 .1 .1 .1 .0
+same-length-3 c = c .before .before .before .before .before .write-two .kept .1 .1 .1 .1 .1 .1 .0
 
 same-length-4 : tie.Need-same-length-4
-same-length-4 c = c .before .before .before .before .before .write-two .kept .1 .1 .1 .1 .1 .1 .0
+same-length-4 c = c .before .before .before .before .before .write-two .kept .1 .1 .1 .1 .1 .1 .1 .0
 
 returns-3 : tie.Need-returns-3
 unfolding listingOf

@@ -21,7 +21,7 @@ visit-requires c κs = let s = c .before .before .before .before .before .before
     let p = s .pre .0 in
     let u = stored-whole _ (p .0) in
     let w = stored-whole _ (p .1) in
-    let v = two-visits _ _ _ _ _ _ (p .0) (c .before .before .before .leg-count .ensures .0) (p .1) (c .before .before .leg-count2 .ensures .0) in (
+    let v = two-visits _ _ _ _ _ _ _ (p .0) (c .before .before .before .leg-count .ensures .0) (p .1) (c .before .before .leg-count2 .ensures .0) in (
       (u .triples, c .before .before .before .leg-count .ensures .1, u .at-most),
       (
         (w .triples, c .before .before .leg-count2 .ensures .1, w .at-most),
@@ -36,16 +36,16 @@ visit-requires c κs = let s = c .before .before .before .before .before .before
     )
 
 same-length : tie.Need-same-length
-same-length c = c .before .before .before .before .visit .kept .1 .1 .1 .1 .1 .1 .1 .1 .0
+same-length c = c .before .before .before .before .visit .kept .1 .1 .1 .1 .1 .1 .1 .1 .1 .0
 
 same-length-2 : tie.Need-same-length-2
-same-length-2 c = c .before .before .before .before .visit .kept .1 .1 .1 .1 .1 .1 .1 .1 .1 .0
+same-length-2 c = c .before .before .before .before .visit .kept .1 .1 .1 .1 .1 .1 .1 .1 .1 .1 .0
 
 returns : tie.Need-returns
 unfolding visitsFrom
 returns c = let e = c .before .before .before .before in
     let p = c .before .before .before .before .before .before .before .before .before .before .before .before .before .pre .0 in
-    let v = two-visits _ _ _ _ _ _ (p .0) (c .before .before .before .before .before .before .before .before .leg-count .ensures .0) (p .1)
+    let v = two-visits _ _ _ _ _ _ _ (p .0) (c .before .before .before .before .before .before .before .before .leg-count .ensures .0) (p .1)
     (c .before .before .before .before .before .before .before .leg-count2 .ensures .0) in
     (e .visit .ensures .0 ∙ ap (tallyOn noTally) v, written-of _ _ v _ _ _ _ (e .visit .ensures .1 .on refl))
 

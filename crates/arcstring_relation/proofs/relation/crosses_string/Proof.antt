@@ -1,4 +1,5 @@
 -- Neither string within the other, and then whether a pair of their legs keeps a point. Assumes nothing.
+use lib.Ieee.{ofBits}
 use Rattle.arcstring_relation.proofs.Relations.{left-within, right-within, some-kept}
 use borrow.Author.Needs.{needs}
 use Rattle.arcstring_relation.proofs.relation.crosses_string.Statement.{statement}
@@ -25,6 +26,7 @@ tally-two-requires : tie.Need-tally-two-requires
 tally-two-requires c κs = search needs
 
 returns-3 : tie.Need-returns-3
+unfolding ofBits
 returns-3 c = let e = c .before .before in
     let d = e .before .before in
     let s = d .before .before .before .before .before .before in

@@ -3,6 +3,7 @@ use mathlib.Core.Path.{_≡_, sym, ap, ap₂, _∙_}
 use mathlib.Core.Bool.{Bool, _&&_}
 use Prim.Native.Nat.{ℕ}
 use lib.Dec.{leb, ltb}
+use lib.Ieee.{ofBits}
 use Rattle.arcstring_check.specs.Answer.{Answer, answered, unlessRefused}
 use Rattle.arcstring_check.specs.Check.{checkNumber, storedCheck}
 use Rattle.arcstring_check.proofs.Answers.{answer-refused, answer-accepted}
@@ -36,7 +37,7 @@ tally-self-requires : tie.Need-tally-self-requires
 tally-self-requires c κs = accepted c
 
 returns-2 : tie.Need-returns-2
-unfolding crossesSelf
+unfolding crossesSelf ofBits
 returns-2 c = ap₂ (λ (n k : ℕ). answered (leb 4 n && ltb 0 k)) (sym (count-points (c .before .before .before .before .before .before .args .v .now)))
     (tally-kept _ _ (c .before .tally-self .ensures .0)) ∙ follows (c .before .before) _
 

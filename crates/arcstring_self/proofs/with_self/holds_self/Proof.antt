@@ -20,7 +20,7 @@ small c = let w = stored-whole _ (c .before .pre) in
     product-small _ _ (le-trans (sub-le _ _) (w .at-most)) (le-trans (sub-le _ _) (w .at-most))
 
 returns : tie.Need-returns
-returns c = λ e. let z = kept-few (c .before .args .v .now) (c .if1 .taken) in (omega (arith, z), omega (arith, z))
+returns c = λ e margin. let z = kept-few margin (c .before .args .v .now) (c .if1 .taken) in (omega (arith, z), omega (arith, z))
 
 sub-pairs : tie.Need-sub-pairs
 sub-pairs c = search needs
@@ -35,7 +35,7 @@ mul-if2 : tie.Need-mul-if2
 mul-if2 c = half-points-fit _ (small c)
 
 returns-2 : tie.Need-returns-2
-returns-2 c = λ e. let k = half-held _ _ (kept-self (c .before .before .args .v .now)) in
+returns-2 c = λ e margin. let k = half-held _ _ (kept-self margin (c .before .before .args .v .now)) in
     (points-held _ _ _ k (c .if2 .taken), le-trans k (leb-true _ _ e))
 
 returns-3 : tie.Need-returns-3

@@ -19,8 +19,8 @@ returns : tie.Need-returns
 returns c =
     let s = c .before .before .before in
     let l = c .before .leg-count in
-    tallied _ _ _ _ (self-visits _ _ _ (s .pre) (l .ensures .0)) refl (c .count-within .ensures)
-    (within-few _ _ (le-trans (l .ensures .1) (stored-whole _ (s .pre) .at-most)))
+    tallied _ _ _ _ (self-visits _ _ _ _ (s .pre) (l .ensures .0)) refl (c .count-within .ensures)
+    (within-few _ _ _ (le-trans (l .ensures .1) (stored-whole _ (s .pre) .at-most)))
 
 pub tally-self-spec : {M : Type 1} → statement M
 tally-self-spec = tie.close (tie.spec leg-count-requires count-within-requires returns)

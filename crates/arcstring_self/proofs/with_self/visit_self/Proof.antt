@@ -16,9 +16,10 @@ use Rattle.arcstring_self.proofs.with_self.visit_self.Statement.{statem
 use Rattle.arcstring_self.proofs.with_self.visit_self.Tie as tie
 
 -- the legs of the walk are the string's own
-count : (e : tie.After-visit) → e .visit .result ≡ tallyOn noTally (selfPairs (e .before .before .before .before .before .before .args .v .now) false)
+count : (e : tie.After-visit) → e .visit .result ≡ tallyOn noTally (selfPairs (e .before .before .before .before .before .before .args .margin)
+    (e .before .before .before .before .before .before .args .v .now) false)
 unfolding visitsFrom
-count e = e .visit .ensures .0 ∙ ap (tallyOn noTally) (self-visits _ _ _ (e .before .before .before .before .before .before .pre .0) (open-count _ _ refl))
+count e = e .visit .ensures .0 ∙ ap (tallyOn noTally) (self-visits _ _ _ _ (e .before .before .before .before .before .before .pre .0) (open-count _ _ refl))
 
 sub-visit : tie.Need-sub-visit
 sub-visit c = stored-some _ (c .before .before .before .pre .0)
@@ -30,7 +31,7 @@ visit-requires : tie.Need-visit-requires
 unfolding visitsFrom
 visit-requires c κs = let s = c .before .before .before .before .before in
     let w = stored-whole _ (s .pre .0) in
-    let v = self-visits _ _ _ (s .pre .0) (open-count _ _ refl) in (
+    let v = self-visits _ _ _ _ (s .pre .0) (open-count _ _ refl) in (
       (w .triples, sub-le _ _, w .at-most),
       (
         (w .triples, sub-le _ _, w .at-most),
@@ -50,19 +51,19 @@ normalize-points-requires c κs = let k = tally-kept _ _ (count (c .before .befo
 
 same-length : tie.Need-same-length
 same-length c =
-    c .before .before .normalize-points .kept .0 ∙ c .before .before .before .before .before .before .before .before .visit .kept .1 .1 .1 .1 .1 .1 .1 .1 .0
+    c .before .before .normalize-points .kept .0 ∙ c .before .before .before .before .before .before .before .before .visit .kept .1 .1 .1 .1 .1 .1 .1 .1 .1 .0
 
 same-length-2 : tie.Need-same-length-2
-same-length-2 c = c .before .before .before .before .before .before .before .before .visit .kept .1 .1 .1 .1 .1 .1 .1 .1 .1 .0
+same-length-2 c = c .before .before .before .before .before .before .before .before .visit .kept .1 .1 .1 .1 .1 .1 .1 .1 .1 .1 .0
 
 returns : tie.Need-returns
 unfolding visitsFrom
 returns c = let e = c .before .before .before .before .before .before .before .before in
     let s = c .before .before .before .before .before .before .before .before .before .before .before .before .before .before in
-    let w = written-of _ _ (self-visits _ _ _ (s .pre .0) (open-count _ _ refl)) _ _ _ _ (e .visit .ensures .1 .on refl) in (
+    let w = written-of _ _ (self-visits _ _ _ _ (s .pre .0) (open-count _ _ refl)) _ _ _ _ (e .visit .ensures .1 .on refl) in (
       count e,
       (
-        normalized-in-place (selfPairs (s .args .v .now) false) _ _ _ _ (tally-kept _ _ (count e)) (w .0)
+        normalized-in-place (selfPairs (s .args .margin) (s .args .v .now) false) _ _ _ _ (tally-kept _ _ (count e)) (w .0)
             (c .before .before .normalize-points .ensures),
         w .1,
       ),

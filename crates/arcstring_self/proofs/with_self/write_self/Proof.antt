@@ -13,10 +13,10 @@ visit-self-requires : tie.Need-visit-self-requires
 visit-self-requires c κs = search needs
 
 same-length : tie.Need-same-length
-same-length c = c .before .before .before .before .visit-self .kept .1 .0
+same-length c = c .before .before .before .before .visit-self .kept .1 .1 .0
 
 same-length-2 : tie.Need-same-length-2
-same-length-2 c = c .before .before .before .before .visit-self .kept .1 .1 .0
+same-length-2 c = c .before .before .before .before .visit-self .kept .1 .1 .1 .0
 
 returns-2 : tie.Need-returns-2
 returns-2 c = search needs

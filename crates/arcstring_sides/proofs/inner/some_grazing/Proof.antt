@@ -31,7 +31,7 @@ is-grazing-requires-4 c κs = tt
 
 returns : tie.Need-returns
 returns c = let b = c .before .before .before in
-    some-tested grazes _ _ _ _ _ (b .before .good .0 .1 .0 .1) (b .is-grazing .ensures) (c .before .before .is-grazing2 .ensures)
+    some-tested (grazes _) _ _ _ _ _ (b .before .good .0 .1 .0 .1) (b .is-grazing .ensures) (c .before .before .is-grazing2 .ensures)
     (c .before .is-grazing3 .ensures) (c .is-grazing4 .ensures)
 
 pub some-grazing-spec : {M : Type 1} → statement M

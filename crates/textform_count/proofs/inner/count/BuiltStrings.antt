@@ -7,7 +7,7 @@ use Prim.Native.Nat.{ℕ, zero, suc, _*_, _/_, _≤_}
 use native.Mathlib.Omega.{arith}
 use lib.ListN.{length, take, drop, length-take, length-map}
 use lib.Seq.{take-at}
-use lib.Ieee.{Float}
+use lib.Ieee.{Float, lt}
 use Rattle.sphericalpoint.specs.declared.SphericalPoint.{SphericalPoint}
 use Rattle.arcstring_check.specs.declared.check.Refusal.{Refusal}
 use Rattle.arcstring_build.specs.declared.build.Built.{Built}
@@ -15,7 +15,7 @@ use Rattle.arcstring_build.specs.declared.build.Built.the-variants as B
 use Rattle.arcstring.specs.declared.inner.vertex.Vertex.{Vertex}
 use Rattle.arcstring_check.specs.Answer.{Answer, refused, answered, unlessRefused, mapAnswer, leaves, refusalNumber}
 use Rattle.arcstring.specs.Points.{StringOf, ArcString, placeOf, unnumbered, points, flat}
-use Rattle.arcstring_check.specs.Check.{storedCheck, buildCheck, roomCheck, mostFloats}
+use Rattle.arcstring_check.specs.Check.{storedCheck, buildCheck, marginCheck, noMargin, roomCheck, mostFloats}
 use Rattle.arcstring_build.specs.Build.{builtString, build, builtAnswer, builtResult, builtFloats}
 use Rattle.arcstring_build.specs.BuildLaws.{AllF64}
 use Rattle.arcstring_check.proofs.Answers.{refuse, pass}
@@ -112,7 +112,11 @@ module _ (v : List Float) where
           flag = t .2;
         }
 
--- ---- both built
+-- ---- both built, and counted with no margin
+
+none-passes : marginCheck noMargin ≡ 0
+unfolding marginCheck lt
+none-passes = refl
 
 module _ (a b : List Float) where
   pub first-refused : (e : Refusal) (n : ℕ) → n ≡ refusalNumber e → buildCheck a ≡ refusalNumber e → refused n ≡ countBuilt a b
@@ -125,14 +129,15 @@ module _ (a b : List Float) where
 
   -- what is built is not refused by the counting call
   pub both-counted : (n m : ℕ) (closed other : Bool) (x y : List Float) → AllF64 a → AllF64 b → BuiltHere a n closed x → BuiltHere b m other y
-      → counted (take (3 * n) x) closed (take (3 * m) y) other ≡ countBuilt a b
+      → counted (take (3 * n) x) closed (take (3 * m) y) other noMargin ≡ countBuilt a b
   unfolding counted visited countBuilt countsBetween
   both-counted n m closed other x y fa fb first second =
       let s = string a in
       let t = string b in
-      (λ i. counted (first .vertices i) (first .flag i) (second .vertices i) (second .flag i))
+      (λ i. counted (first .vertices i) (first .flag i) (second .vertices i) (second .flag i) noMargin)
       ∙ pass (storedCheck (flat (s .vertices))) _ (built-stored a fa (first .accepted))
       ∙ pass (storedCheck (flat (t .vertices))) _ (built-stored b fb (second .accepted))
-      ∙ (λ i. answered (countsOf (pairsBetween (legs (points-flat (s .vertices) i) (s .closed)) (legs (points-flat (t .vertices) i) (t .closed)))))
+      ∙ pass (marginCheck noMargin) _ none-passes
+      ∙ (λ i. answered (countsOf (pairsBetween noMargin (legs (points-flat (s .vertices) i) (s .closed)) (legs (points-flat (t .vertices) i) (t .closed)))))
       ∙ sym (pass (buildCheck b) _ (second .accepted))
       ∙ sym (pass (buildCheck a) _ (first .accepted))

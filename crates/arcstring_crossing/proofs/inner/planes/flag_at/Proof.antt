@@ -26,8 +26,8 @@ returns c =
     let cross = sides .before in
     let at = cross .before in (
       omega arith,
-      λ a x h p z. shows-apart _ _ _ _ (shown .shows-apart .ensures (c .if1 .taken))
-          ∙ read-class a x _ _ _ _ _ _ _ h p (at .plane-at .ensures) (cross .xyz-cross .ensures) (sides .side-values .ensures),
+      λ a x h p z. shows-apart _ _ _ _ _ (shown .shows-apart .ensures (c .if1 .taken))
+          ∙ read-class _ a x _ _ _ _ _ _ _ h p (at .plane-at .ensures) (cross .xyz-cross .ensures) (sides .side-values .ensures),
     )
 
 returns-2 : tie.Need-returns-2

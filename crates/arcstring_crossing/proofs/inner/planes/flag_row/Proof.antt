@@ -11,14 +11,14 @@ use Rattle.arcstring_crossing.proofs.inner.planes.flag_row.Statement.{s
 use Rattle.arcstring_crossing.proofs.inner.planes.flag_row.Tie as tie
 
 abbrev Inv-loop : tie.InvT-loop
-Inv-loop plane planes width from to flags₀ found₀ k₀ flags found k = (found ≤ k) × (from ≤ k) × (length flags ≡ length flags₀)
-    × (found ≡ 0 → AllApart plane planes width from k) × FlagsOf plane planes width from k flags
+Inv-loop plane planes width from to margin flags₀ found₀ k₀ flags found k = (found ≤ k) × (from ≤ k) × (length flags ≡ length flags₀)
+    × (found ≡ 0 → AllApart margin plane planes width from k) × FlagsOf margin plane planes width from k flags
 
 abbrev μ-loop : tie.MeasureT-loop
-μ-loop plane planes width from to flags₀ found₀ k₀ flags found k = to - k
+μ-loop plane planes width from to margin flags₀ found₀ k₀ flags found k = to - k
 
 loop-holds : tie.Need-loop-holds Inv-loop μ-loop
-loop-holds c = (omega arith, omega arith, refl, λ z. aparts-none _ _ _ _, flags-none _ _ _ _ _)
+loop-holds c = (omega arith, omega arith, refl, λ z. aparts-none _ _ _ _ _, flags-none _ _ _ _ _ _)
 
 flag-at-requires : tie.Need-flag-at-requires Inv-loop μ-loop
 flag-at-requires c κs = let p = c .before .before .before .before .pre in
@@ -45,8 +45,8 @@ loop-again c = let e = c .flag-at .ensures in
       omega (arith, e .0),
       omega arith,
       search needs,
-      aparts-next _ _ _ _ _ _ _ (d .loop .inv .3) (e .1),
-      flags-next _ _ _ _ _ _ _ (omega arith)
+      aparts-next _ _ _ _ _ _ _ _ (d .loop .inv .3) (e .1),
+      flags-next _ _ _ _ _ _ _ _ (omega arith)
           (d .loop .inv .4) (e .1),
     )
 
@@ -55,7 +55,7 @@ same-length c = search needs
 
 returns : tie.Need-returns Inv-loop μ-loop
 returns c = let w = c .before .loop .inv in
-    (λ z. aparts-to _ _ _ _ _ _ (c .loop-test .left) (w .3 z), flags-to _ _ _ _ _ _ _ (c .loop-test .left) (w .4))
+    (λ z. aparts-to _ _ _ _ _ _ _ (c .loop-test .left) (w .3 z), flags-to _ _ _ _ _ _ _ _ (c .loop-test .left) (w .4))
 
 pub flag-row-spec : {M : Type 1} → statement M
 flag-row-spec =

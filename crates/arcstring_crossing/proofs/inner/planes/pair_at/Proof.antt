@@ -29,8 +29,8 @@ returns c =
     let at = cross .before in
     let s = at .before .before .before in
     let a = legOf (s .args .arc) in
-    c .class-at .ensures ∙ ap (λ (l : Leg). classAt (cross .xyz-cross .result) a l (sides .side-values .result)) (c .before .leg-at .ensures)
-    ∙ read-class a _ _ _ _ _ _ _ _ (s .pre .1 .0) (s .pre .1 .1) (at .plane-at .ensures) (cross .xyz-cross .ensures) (sides .side-values .ensures)
+    c .class-at .ensures ∙ ap (λ (l : Leg). classAt (s .args .margin) (cross .xyz-cross .result) a l (sides .side-values .result)) (c .before .leg-at .ensures)
+    ∙ read-class _ a _ _ _ _ _ _ _ _ (s .pre .1 .0) (s .pre .1 .1) (at .plane-at .ensures) (cross .xyz-cross .ensures) (sides .side-values .ensures)
 
 pub pair-at-spec : {M : Type 1} → statement M
 pair-at-spec = tie.close (tie.spec plane-at-requires xyz-cross-requires side-values-requires leg-at-requires class-at-requires returns)

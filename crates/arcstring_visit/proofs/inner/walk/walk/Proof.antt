@@ -18,26 +18,28 @@ use Rattle.arcstring_visit.proofs.inner.walk.walk.Statement.{statement}
 use Rattle.arcstring_visit.proofs.inner.walk.walk.Tie as tie
 
 abbrev Inv-loop : tie.InvT-loop
-Inv-loop a na la b nb lb within planes width flags₀ flagged₀ write points₀ marks₀ t₀ i₀ flags flagged points marks t i =
-    (tallyOn t (visitsFrom within a i la b lb) ≡ tallyOn noTally (visitsFrom within a 0 la b lb))
-    × WalksSame write (visitsFrom within a 0 la b lb) 0 points₀ marks₀ (visitsFrom within a i la b lb) (t .kept) points marks
+Inv-loop a na la b nb lb within planes width flags₀ flagged₀ margin write points₀ marks₀ t₀ i₀ flags flagged points marks t i =
+    (tallyOn t (visitsFrom margin within a i la b lb) ≡ tallyOn noTally (visitsFrom margin within a 0 la b lb))
+    × WalksSame write (visitsFrom margin within a 0 la b lb) 0 points₀ marks₀ (visitsFrom margin within a i la b lb) (t .kept) points marks
     × (length points ≡ length points₀) × (length marks ≡ length marks₀) × (length flags ≡ length flags₀) × (length flagged ≡ length flagged₀)
 
 abbrev μ-loop : tie.MeasureT-loop
-μ-loop a na la b nb lb within planes width flags₀ flagged₀ write points₀ marks₀ t₀ i₀ flags flagged points marks t i = la - i
+μ-loop a na la b nb lb within planes width flags₀ flagged₀ margin write points₀ marks₀ t₀ i₀ flags flagged points marks t i = la - i
 
 abbrev start : tie.After-row-start Inv-loop μ-loop → tie.Start Inv-loop μ-loop
 start l = l .before .before .before .before .before .before .before .before .before .before .before .before .before
 
 -- the pairs still to be visited begin with those of leg i
-next : (l : tie.After-row-start Inv-loop μ-loop) → visitsFrom (start l .args .within) (start l .args .a .now) (l .before .before .before .before .loop .i)
+next : (l : tie.After-row-start Inv-loop μ-loop)
+    → visitsFrom (start l .args .margin) (start l .args .within) (start l .args .a .now) (l .before .before .before .before .loop .i)
     (start l .args .la) (start l .args .b .now) (start l .args .lb)
-    ≡ rowPairs (legOf (l .before .before .leg-at .result)) (start l .args .b .now) (l .row-start .result) (start l .args .lb) ++ visitsFrom
-    (start l .args .within) (start l .args .a .now) (l .before .before .before .before .loop .i + 1) (start l .args .la) (start l .args .b .now)
+    ≡ rowPairs (start l .args .margin) (legOf (l .before .before .leg-at .result)) (start l .args .b .now) (l .row-start .result) (start l .args .lb)
+    ++ visitsFrom (start l .args .margin) (start l .args .within) (start l .args .a .now) (l .before .before .before .before .loop .i + 1) (start l .args .la)
+    (start l .args .b .now)
     (start l .args .lb)
 next l = let s = start l in
     let p = s .pre .0 in
-    visits-next _ _ _ (p .0) _ (p .1) _ _ _ _ _ (s .pre .1 .1 .0) (l .before .before .before .loop-test .taken) (l .before .before .leg-at .ensures)
+    visits-next _ _ _ _ (p .0) _ (p .1) _ _ _ _ _ (s .pre .1 .1 .0) (l .before .before .before .loop-test .taken) (l .before .before .leg-at .ensures)
     (l .row-start .ensures)
 
 none-requires : tie.Need-none-requires Inv-loop μ-loop
@@ -62,7 +64,8 @@ walk-row-requires c κs = let l = c .before .before .before .before in
     let s = c .before .before .before .before .before .before .before .before .before .before .before .before .before .before .before .before .before in
     let q = s .pre .0 in
     let p = s .pre .1 .0 in
-    let few = visits-few (s .args .within) (s .args .a .now) (s .args .na) (q .0) (s .args .la) (q .1) (s .args .b .now) (s .args .lb) (le-trans (q .1) (q .2))
+    let few = visits-few (s .args .margin) (s .args .within) (s .args .a .now) (s .args .na) (q .0) (s .args .la) (q .1) (s .args .b .now) (s .args .lb)
+    (le-trans (q .1) (q .2))
     (le-trans (p .1) (p .2)) in (
       (
         p .0,
@@ -97,8 +100,8 @@ loop-again c = let e = c .before .before .before .before .before .before .before
           (c .before .before .before .before .before .before .before .before .before .before .before .before .before .before .before .before .before .before
           .before .before .before .before .before .before .before .before .pre .1 .1 .1) (d .loop .t) _ _ _ _ _ _ _ _ (next l) (d .loop .inv .1)
           (e .walk-row .ensures .0) (e .walk-row .ensures .1),
-      e .walk-row .kept .1 .1 .1 .1 .1 .1 .1 .1 .1 .1 .1 .0 ∙ d .loop .inv .2,
-      e .walk-row .kept .1 .1 .1 .1 .1 .1 .1 .1 .1 .1 .1 .1 .0 ∙ d .loop .inv .3,
+      e .walk-row .kept .1 .1 .1 .1 .1 .1 .1 .1 .1 .1 .1 .1 .0 ∙ d .loop .inv .2,
+      e .walk-row .kept .1 .1 .1 .1 .1 .1 .1 .1 .1 .1 .1 .1 .1 .0 ∙ d .loop .inv .3,
       e .walk-row .kept .1 .1 .1 .1 .0 ∙ d .loop .inv .4,
       e .walk-row .kept .1 .1 .1 .1 .1 .0 ∙ d .loop .inv .5,
     )
@@ -118,7 +121,8 @@ same-length-4 c = c .before .loop .inv .3
 returns : tie.Need-returns Inv-loop μ-loop
 returns c = let d = c .before in
     let s = c .before .before .before .before .before .before .before .before .before .before in
-    let none = visits-none (s .args .within) (s .args .a .now) (s .args .na) (s .pre .0 .0) (s .args .la) (s .pre .0 .1) (s .args .b .now) (s .args .lb)
+    let none = visits-none (s .args .margin) (s .args .within) (s .args .a .now) (s .args .na) (s .pre .0 .0) (s .args .la) (s .pre .0 .1) (s .args .b .now)
+    (s .args .lb)
     (d .loop .i) (c .loop-test .left) in
     (counted-all _ _ _ none (d .loop .inv .0), walk-done _ _ _ _ _ (s .pre .1 .1 .1) (d .loop .t) _ _ _ none (d .loop .inv .1))
 

@@ -18,24 +18,26 @@ use Rattle.arcstring_visit.proofs.inner.walk.walk_found.Statement.{stat
 use Rattle.arcstring_visit.proofs.inner.walk.walk_found.Tie as tie
 
 abbrev Inv-loop : tie.InvT-loop
-Inv-loop arc plane planes width flagged m v n l write points₀ marks₀ t₀ j₀ points marks t j =
-    (tallyOn t (foundPairs (legOf arc) v n flagged j m) ≡ tallyOn t₀ (foundPairs (legOf arc) v n flagged 0 m))
-    × WalksSame write (foundPairs (legOf arc) v n flagged 0 m) (t₀ .kept) points₀ marks₀ (foundPairs (legOf arc) v n flagged j m) (t .kept) points marks
+Inv-loop arc plane planes width flagged m v n l margin write points₀ marks₀ t₀ j₀ points marks t j =
+    (tallyOn t (foundPairs margin (legOf arc) v n flagged j m) ≡ tallyOn t₀ (foundPairs margin (legOf arc) v n flagged 0 m))
+    × WalksSame write (foundPairs margin (legOf arc) v n flagged 0 m) (t₀ .kept) points₀ marks₀ (foundPairs margin (legOf arc) v n flagged j m) (t .kept)
+    points marks
     × (length points ≡ length points₀) × (length marks ≡ length marks₀)
 
 abbrev μ-loop : tie.MeasureT-loop
-μ-loop arc plane planes width flagged m v n l write points₀ marks₀ t₀ j₀ points marks t j = m - j
+μ-loop arc plane planes width flagged m v n l margin write points₀ marks₀ t₀ j₀ points marks t j = m - j
 
 abbrev start : tie.After-pair-at Inv-loop μ-loop → tie.Start Inv-loop μ-loop
 start e = e .before .before .before .before .before .before .before .before .before
 
 -- the pairs still to be visited begin with the one that is read
-next : (e : tie.After-pair-at Inv-loop μ-loop) → foundPairs (legOf (start e .args .arc)) (start e .args .v .now) (start e .args .n)
+next : (e : tie.After-pair-at Inv-loop μ-loop) → foundPairs (start e .args .margin) (legOf (start e .args .arc)) (start e .args .v .now) (start e .args .n)
     (start e .args .flagged .now) (e .before .before .before .loop .j) (start e .args .m)
-    ≡ (e .pair-at .result ∷ []) ++ foundPairs (legOf (start e .args .arc)) (start e .args .v .now) (start e .args .n) (start e .args .flagged .now)
+    ≡ (e .pair-at .result ∷ []) ++ foundPairs (start e .args .margin) (legOf (start e .args .arc)) (start e .args .v .now) (start e .args .n)
+    (start e .args .flagged .now)
     (e .before .before .before .loop .j + 1) (start e .args .m)
 next e = let s = start e in
-    found-next _ _ _ _ _ _ _ _ (e .before .before .loop-test .taken) (s .pre .1 .0 .0) refl (e .pair-at .ensures)
+    found-next _ _ _ _ _ _ _ _ _ (e .before .before .loop-test .taken) (s .pre .1 .0 .0) refl (e .pair-at .ensures)
 
 loop-holds : tie.Need-loop-holds Inv-loop μ-loop
 loop-holds c = (refl, walk-start _ _ _ _ _, refl, refl)
@@ -65,7 +67,7 @@ add-requires c κs = let d = c .before .before .before .before .before .before .
     let s = c .before .before .before .before .before .before .before .before .before .before .before .before .before .before .before .before in
     lt-of-le-of-lt
     (sum-so-far (d .loop .t) (s .args .start) _ _ (s .args .m) (d .loop .inv .0)
-    (found-few (legOf (s .args .arc)) (s .args .v .now) (s .args .n) (s .args .flagged .now) (s .args .m) (s .pre .1 .0 .0))) (s .pre .0 .3)
+    (found-few (s .args .margin) (legOf (s .args .arc)) (s .args .v .now) (s .args .n) (s .args .flagged .now) (s .args .m) (s .pre .1 .0 .0))) (s .pre .0 .3)
 
 add-j : tie.Need-add-j Inv-loop μ-loop
 add-j c = let d = c .before .before .before .before .before .before .before .before .before .before in
@@ -93,7 +95,7 @@ same-length-2 c = c .before .loop .inv .3
 
 returns : tie.Need-returns Inv-loop μ-loop
 returns c = let d = c .before in
-    let none = found-none _ _ _ _ _ _ (c .loop-test .left) in (
+    let none = found-none _ _ _ _ _ _ _ (c .loop-test .left) in (
       counted-all _ _ _ none (d .loop .inv .0),
       walk-done _ _ _ _ _ (c .before .before .before .before .before .before .before .pre .1 .1) (d .loop .t) _ _ _
           none (d .loop .inv .1),

@@ -29,7 +29,7 @@ add-apart-requires c κs = let p = start (c .before .before .before) .pre .0 in
     (sum-small _ _ (p .3), le-trans (p .1) (p .2), zero-le)
 
 same-length : tie.Need-same-length
-same-length c = c .before .before .before .before .flag-row .kept .1 .1 .1 .1 .1 .0
+same-length c = c .before .before .before .before .flag-row .kept .1 .1 .1 .1 .1 .1 .0
 
 returns : tie.Need-returns
 returns c =
@@ -37,7 +37,7 @@ returns c =
     let s = start f in
     let p = s .pre .0 in
     let n = s .args .to - s .args .from in
-    let e = row-apart _ _ _ (p .0) _ (p .4) _ _ _ _ (p .1) (p .5) (f .flag-row .ensures .0 (c .before .if1 .taken)) in (
+    let e = row-apart _ _ _ _ (p .0) _ (p .4) _ _ _ _ (p .1) (p .5) (f .flag-row .ensures .0 (c .before .if1 .taken)) in (
       c .add-apart .ensures ∙ ap (tallyOn (s .args .start)) (ap (λ (m : ℕ). replicate m Apart) (sub-zero n) ∙ sym e),
       aparts-written _ _ n _ _ _ e,
     )
@@ -46,7 +46,7 @@ gather-requires : tie.Need-gather-requires
 gather-requires c κs =
     let f = c .before .before .before .before .before in
     let s = start f in
-    (still-long _ _ _ (f .flag-row .kept .1 .1 .1 .1 .1 .0) (s .pre .1 .0 .0), s .pre .1 .0 .1, le-trans (s .pre .0 .1) (s .pre .0 .2))
+    (still-long _ _ _ (f .flag-row .kept .1 .1 .1 .1 .1 .1 .0) (s .pre .1 .0 .0), s .pre .1 .0 .1, le-trans (s .pre .0 .1) (s .pre .0 .2))
 
 add-apart-requires-2 : tie.Need-add-apart-requires-2
 add-apart-requires-2 c κs =
@@ -64,22 +64,22 @@ walk-found-requires c κs =
     let m = g .gather .result in
     let left = s .args .to - s .args .from - m in
     let u = c .before .before .before .add-apart2 .ensures in
-    let r = row-sifted _ _ _ (p .0) _ (p .4) _ _ _ _ (p .1) (p .5) _ (f .flag-row .ensures .1) _ _ (e .0 .2) (e .0 .1) in (
+    let r = row-sifted _ _ _ _ (p .0) _ (p .4) _ _ _ _ (p .1) (p .5) _ (f .flag-row .ensures .1) _ _ (e .0 .2) (e .0 .1) in (
       (p .0, p .1, p .2, sum-with-rest _ _ left m _ u (row-in-string m _ _ _ (e .0 .0) (p .1)) (p .3), p .4, p .5),
       ((e .0 .1, e .1), room-at _ _ _ _ left u _ _ (sifted-room r _ _ _ _ (s .pre .1 .1))),
     )
 
 same-length-2 : tie.Need-same-length-2
-same-length-2 c = flags (c .before .before .before .before .before .before .before .before .before .before .before) .flag-row .kept .1 .1 .1 .1 .1 .0
+same-length-2 c = flags (c .before .before .before .before .before .before .before .before .before .before .before) .flag-row .kept .1 .1 .1 .1 .1 .1 .0
 
 same-length-3 : tie.Need-same-length-3
 same-length-3 c = c .before .before .before .before .before .before .before .before .before .before .before .gather .kept .1 .1 .1 .0
 
 same-length-4 : tie.Need-same-length-4
-same-length-4 c = c .before .before .before .before .walk-found .kept .1 .1 .1 .1 .1 .1 .1 .1 .1 .1 .0
+same-length-4 c = c .before .before .before .before .walk-found .kept .1 .1 .1 .1 .1 .1 .1 .1 .1 .1 .1 .0
 
 same-length-5 : tie.Need-same-length-5
-same-length-5 c = c .before .before .before .before .walk-found .kept .1 .1 .1 .1 .1 .1 .1 .1 .1 .1 .1 .0
+same-length-5 c = c .before .before .before .before .walk-found .kept .1 .1 .1 .1 .1 .1 .1 .1 .1 .1 .1 .1 .0
 
 returns-2 : tie.Need-returns-2
 returns-2 c =
@@ -89,7 +89,7 @@ returns-2 c =
     let p = s .pre .0 in
     let e = g .gather .ensures in
     let u = c .before .before .before .before .before .before .before .before .add-apart2 .ensures in
-    let r = row-sifted _ _ _ (p .0) _ (p .4) _ _ _ _ (p .1) (p .5) _ (f .flag-row .ensures .1) _ _ (e .0 .2) (e .0 .1) in
+    let r = row-sifted _ _ _ _ (p .0) _ (p .4) _ _ _ _ (p .1) (p .5) _ (f .flag-row .ensures .1) _ _ (e .0 .2) (e .0 .1) in
     let w = c .before .before .before .before .walk-found .ensures in (
       sifted-tally r _ _ _ u (w .0),
       sifted-written r _ _ _ _ _ _ (written-at _ _ _ _ (s .args .to - s .args .from - g .gather .result) u _ _ _ _ (w .1)),

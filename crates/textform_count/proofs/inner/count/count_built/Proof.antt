@@ -1,6 +1,7 @@
 -- `count_built` builds both strings and hands on what the counting call answers for them. Assumes nothing.
 use mathlib.Core.Path.{sym, _∙_}
 use native.Mathlib.Omega.{arith}
+use lib.Ieee.{ofBits}
 use borrow.Author.Needs.{needs}
 use Rattle.textform_count.proofs.inner.count.BuiltStrings.{BuiltHere, build-refused, build-stands, first-refused, second-refused, both-counted}
 use Rattle.textform_count.proofs.inner.count.count_built.Statement.{statement}
@@ -95,6 +96,7 @@ returns-2 c =
     (build-refused _ _ _ _ (b .build-plain2 .ensures .0) (b .build-plain2 .ensures .1) _ (other .other .given .1))
 
 returns-3 : tie.Need-returns-3
+unfolding ofBits
 returns-3 c =
     let other = c .before .before .before .before .before in
     let lent = first other .before .before .before .before .before in
