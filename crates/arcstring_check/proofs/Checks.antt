@@ -13,7 +13,7 @@ use lib.Ieee.{Float, nan, inf, fin, binary64, ofBits, div, lt, le}
 use lib.Ieee.Fits.{and-l, and-r}
 use Rattle.ieee754.specs.Bound.{AtMost}
 use Rattle.ieee754.proofs.Tests.{never}
-use Rattle.ieee754.proofs.Comparisons.{zeroFloat}
+use Rattle.ieee754.specs.Value.{zeroFloat}
 use Rattle.ieee754.proofs.Order.{le-not-lt}
 use Rattle.ieee754.proofs.Bounds.{between-at-most, at-most-between}
 use Rattle.sphericalpoint.specs.declared.SphericalPoint.{SphericalPoint}

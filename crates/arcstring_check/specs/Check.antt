@@ -7,6 +7,7 @@ use lib.ListN.{length}
 use lib.Dec.{ltb, eqb}
 use lib.Ieee.{Float, nan, inf, fin, lt, le}
 use lib.IntN.{pos}
+use Rattle.ieee754.specs.Value.{zeroFloat}
 use Rattle.sphericalpoint.specs.declared.SphericalPoint.{SphericalPoint}
 use Rattle.arcstring_check.specs.declared.check.Checked.{Checked}
 use Rattle.arcstring_check.specs.declared.check.Checked.the-variants.{Accepted, Refused}
@@ -70,11 +71,11 @@ pointCheck p = numberIf (not (inRange (p .x) && inRange (p .y) && inRange (p .z)
 unfoldable pub marginCheck : Float → ℕ
 marginCheck nan = 9
 marginCheck (inf s) = 9
-marginCheck (fin s m e) = numberIf (lt (fin s m e) (fin false 0 (pos 0))) 9
+marginCheck (fin s m e) = numberIf (lt (fin s m e) zeroFloat) 9
 
 -- the margin of a call that takes none
 abbrev pub noMargin : Float
-noMargin = fin false 0 (pos 0)
+noMargin = zeroFloat
 
 -- 7: the finished answer, of so many elements, is longer than the buffer lent for it
 unfoldable pub roomCheck : ℕ → ℕ → ℕ

@@ -1,27 +1,27 @@
 -- For two legs with coordinates from -1 to 1 the meeting point and the four side values are finite: no NaN, no infinity. So each side value is exactly one of
 -- zero, above zero and below zero. Assumes nothing.
 use mathlib.Core.Path.{_≡_, refl, sym, subst}
-use mathlib.Core.Bool.{true, false}
+use mathlib.Core.Bool.{Bool, true, false}
 use mathlib.Core.List.{[], _∷_, List·Memᴰ, List·Memᴰ·head, List·Memᴰ·tail, List·Memᴰ·eq-of-singleton}
 use Prim.Native.Nat.{ℕ, zero, suc, _+_, _*_, _≤_, _<_}
 use native.Mathlib.Nat.{mul-pos}
 use native.Mathlib.Omega.{arith}
 use lib.Dec.{T}
 use lib.IntN.{ℤ, pos}
-use lib.Ieee.{Float, nan, inf, fin, binary64, up, down, add, sub, mul, lt, eq}
+use lib.Ieee.{Float, nan, inf, fin, binary64, up, down, add, sub, mul, lt}
 use lib.Ieee.Fits.{up-pos}
-use borrow.Author.Tests.{lt-ltb, le-ltb, ne-eqb}
+use borrow.Author.Tests.{lt-ltb, le-ltb}
 use Rattle.ieee754.specs.Bound.{AtMost}
-use Rattle.ieee754.specs.Value.{vzero, value}
+use Rattle.ieee754.specs.Value.{zeroFloat, isZero}
 use Rattle.ieee754.proofs.ByValue.{zero-times}
-use Rattle.ieee754.proofs.Comparisons.{lt-value, eq-value}
+use Rattle.ieee754.proofs.Comparisons.{lt-value}
 use Rattle.ieee754.proofs.Bounds.{neg-at-most, mul-at-most, add-at-most, sub-at-most}
 use Rattle.sphericalpoint.specs.declared.SphericalPoint.{SphericalPoint}
 use Rattle.sphericalpoint.specs.Vector.{xyzMul, xyzNeg, xyzSum, xyzDot, xyzCross}
 use Rattle.arcstring_check.specs.Check.{inRange}
 use Rattle.arcstring_check.proofs.Checks.{range-bound}
 use Rattle.arcstring.specs.Leg.{Leg}
-use Rattle.arcstring_sides.specs.Sides.{zeroFloat, isZero, isAbove, isBelow}
+use Rattle.arcstring_sides.specs.Sides.{isAbove, isBelow}
 use Rattle.arcstring_pair.specs.Pair.{normal, meeting, sideFrom, sideTo, sideValues}
 use Rattle.arcstring_pair.specs.FiniteLaws.{EachAtMost, ExactlyOne, onlyFirst, onlySecond, onlyThird}
 
@@ -101,14 +101,11 @@ module _ (l : Leg) (h : LegInRange l) where
 abbrev OneOf : Float → Type 0
 OneOf x = ExactlyOne (isZero x) (isAbove x) (isBelow x)
 
-zero-side : (x : Float) → value x ≡ vzero → OneOf x
-unfolding isZero isAbove isBelow
-zero-side x p = rw (
-  eq-value x zeroFloat zeroFloat zeroFloat p refl,
-  lt-value zeroFloat zeroFloat x zeroFloat refl p,
-  lt-value x zeroFloat zeroFloat zeroFloat p
-      refl,
-) (unfold eq lt in onlyFirst)
+zero-side : (s : Bool) (e : ℤ) → OneOf (fin s zero e)
+unfolding isAbove isBelow
+zero-side s e =
+    let x = fin s zero e in
+    rw (lt-value zeroFloat zeroFloat x zeroFloat refl refl, lt-value x zeroFloat zeroFloat zeroFloat refl refl) (unfold lt in onlyFirst)
 
 module _ (m : ℕ) (e : ℤ) where
   -- zero and a number above it, as the comparisons write them
@@ -119,23 +116,23 @@ module _ (m : ℕ) (e : ℤ) where
   above = mul-pos (mul-pos (omega arith) (up-pos e)) (omega arith)
 
   above-side : OneOf (fin false (suc m) e)
-  unfolding isZero isAbove isBelow eq lt
+  unfolding isAbove isBelow lt
   above-side =
       let z = 0 * up (pos 0) * down e in
       let n = suc m * up e * down (pos 0) in
-      rw (ne-eqb n z (λ p. omega (arith, naught, above, p)), lt-ltb z n (omega (arith, naught, above)), le-ltb n z (omega (arith, naught, above))) onlySecond
+      rw (lt-ltb z n (omega (arith, naught, above)), le-ltb n z (omega (arith, naught, above))) onlySecond
 
   below-side : OneOf (fin true (suc m) e)
-  unfolding isZero isAbove isBelow eq lt
+  unfolding isAbove isBelow lt
   below-side =
       let z = 0 * up (pos 0) * down e in
       let n = suc m * up e * down (pos 0) in
-      rw (ne-eqb n z (λ p. omega (arith, naught, above, p)), lt-ltb 0 (n + z) (omega (arith, naught, above))) onlyThird
+      rw (lt-ltb 0 (n + z) (omega (arith, naught, above))) onlyThird
 
 side-of : (x : Float) (k : ℕ) → AtMost k x → OneOf x
 side-of nan k h = absurd h
 side-of (inf s) k h = absurd h
-side-of (fin s zero e) k h = zero-side (fin s zero e) refl
+side-of (fin s zero e) k h = zero-side s e
 side-of (fin false (suc m) e) k h = above-side m e
 side-of (fin true (suc m) e) k h = below-side m e
 

@@ -6,19 +6,21 @@ use mathlib.Core.Bool.{Bool, true, false, not, _&&_, _||_}
 use mathlib.Core.List.{List, [], _∷_}
 use Prim.Native.Nat.{ℕ}
 use native.Mathlib.Omega.{arith}
-use lib.Ieee.{Float, nan, inf, fin, ofBits, lt, eq, le}
+use lib.Ieee.{Float, nan, inf, fin, ofBits, lt, le}
 use Rattle.ieee754.specs.Size.{abs}
+use Rattle.ieee754.specs.Value.{zeroFloat, isZero}
 use Rattle.ieee754.proofs.Tests.{never}
-use Rattle.ieee754.proofs.Comparisons.{lt-value, le-value}
+use Rattle.ieee754.proofs.ByValue.{zero-value}
+use Rattle.ieee754.proofs.Comparisons.{lt-value, le-value, eq-zero}
 use Rattle.ieee754.proofs.Order.{le-not-lt}
 use Rattle.sphericalpoint.specs.declared.SphericalPoint.{SphericalPoint}
 use Rattle.sphericalpoint.specs.Vector.{xyzNeg}
 use Rattle.arcstring_check.specs.Answer.{numberIf, pick}
 use Rattle.arcstring_check.specs.Check.{marginCheck}
 use Rattle.arcstring.specs.Leg.{Leg}
-use Rattle.arcstring_sides.specs.Sides.{zeroFloat, grazes, isZero, isAbove, isBelow, signNegative, signPositive, someSide, everySide}
+use Rattle.arcstring_sides.specs.Sides.{grazes, isAbove, isBelow, signNegative, signPositive, someSide, everySide}
 use Rattle.arcstring_sides.proofs.Signs.{negative-of-other, positive-of-other}
-use Rattle.arcstring_sides.proofs.Margins.{zero-value, wider, no-graze-no-zero}
+use Rattle.arcstring_sides.proofs.Margins.{holds, wider, no-graze-no-zero}
 use Rattle.arcstring_pair.specs.declared.pair.Pair.{Pair}
 use Rattle.arcstring_pair.specs.declared.pair.Pair.the-variants.{Clean, End, Grazing, Apart}
 use Rattle.arcstring_pair.specs.declared.pair.Outcome.{Outcome}
@@ -46,12 +48,12 @@ not-zero margin x h = no-graze-no-zero margin x (from-zero margin h)
 -- a zero is such a margin
 pub zero-accepted : (margin : Float) → isZero margin ≡ true → marginCheck margin ≡ 0
 unfolding marginCheck
-zero-accepted nan h = never (unfold isZero eq in h)
-zero-accepted (inf s) h = never (unfold isZero eq in h)
+zero-accepted nan h = never h
+zero-accepted (inf s) h = never h
 zero-accepted (fin s m e) h =
     let x = fin s m e in
     let z : lt zeroFloat zeroFloat ≡ false = unfold lt in refl in
-    ap (λ (b : Bool). numberIf b 9) (lt-value x zeroFloat zeroFloat zeroFloat (zero-value x h) refl ∙ z)
+    ap (λ (b : Bool). numberIf b 9) (lt-value x zeroFloat zeroFloat zeroFloat (zero-value x (holds h)) refl ∙ z)
 
 -- ---- the point stays
 
@@ -72,10 +74,10 @@ module _ (margin : Float) (h : marginCheck margin ≡ 0) where
       neither true b k = never (sym k)
 
       above : (x : Float) → isZero x ≡ false → isAbove x ≡ signPositive x
-      above x z = unfold isZero isAbove ofBits in positive-of-other x z
+      above x z = unfold isAbove ofBits in positive-of-other x (eq-zero x ∙ z)
 
       below : (x : Float) → isZero x ≡ false → isBelow x ≡ signNegative x
-      below x z = unfold isZero isBelow ofBits in negative-of-other x z
+      below x z = unfold isBelow ofBits in negative-of-other x (eq-zero x ∙ z)
 
 -- a pair whose signs agree has the point, and keeps it, as a grazing one does
 agreeing : (p : SphericalPoint) (a b : Leg) → SamePoint (judged (endOrClean p a b)) (judged (Grazing (keptOrDropped p a b)))

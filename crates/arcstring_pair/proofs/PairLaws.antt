@@ -5,10 +5,12 @@ use mathlib.Core.List.{List, [], _∷_, List·Memᴰ, List·Memᴰ·head, List·
 use mathlib.Core.Option.{Option, none, some}
 use Prim.Native.Nat.{ℕ}
 use lib.Dec.{eqb}
-use lib.Ieee.{Float, ofBits, eq}
+use lib.Ieee.{Float, ofBits}
 use Rattle.sphericalpoint.specs.declared.SphericalPoint.{SphericalPoint}
 use Rattle.sphericalpoint.specs.Vector.{xyzNeg}
+use Rattle.ieee754.specs.Value.{isZero}
 use Rattle.ieee754.proofs.Tests.{never}
+use Rattle.ieee754.proofs.Comparisons.{eq-zero}
 use Rattle.arcstring_check.specs.Answer.{pick}
 use Rattle.arcstring_check.specs.Check.{marginCheck, noMargin}
 use Rattle.arcstring_check.proofs.Answers.{both-passed}
@@ -17,7 +19,7 @@ use Rattle.arcstring_pair.specs.declared.pair.Pair.the-variants.{Clean, 
 use Rattle.arcstring_pair.specs.declared.pair.Outcome.{Outcome}
 use Rattle.arcstring_pair.specs.declared.pair.Outcome.the-variants.{Kept, Dropped, None}
 use Rattle.arcstring.specs.Leg.{Leg, legCheck}
-use Rattle.arcstring_sides.specs.Sides.{grazes, isZero, isAbove, isBelow, signNegative, signPositive, someSide, everySide}
+use Rattle.arcstring_sides.specs.Sides.{grazes, isAbove, isBelow, signNegative, signPositive, someSide, everySide}
 use Rattle.arcstring_pair.specs.Pair.{normal, meeting, sideFrom, sideTo, sideValues}
 use Rattle.arcstring_pair.specs.Pair.{atEnd, keptOrDropped, grazingOutcome, endOrClean, classAt, pairOf, Judged, judged, keptPoint}
 use Rattle.arcstring_pair.specs.Pair.{arcsCrossing}
@@ -71,8 +73,8 @@ next-side under bothSides = bothSides
 module _ (margin : Float) (accepted : marginCheck margin ≡ 0) where
   one-side : (x : Float) → ExactlyOne (isZero x) (isAbove x) (isBelow x)
       → OneSide (grazes margin x) (isAbove x) (isBelow x) (signPositive x) (signNegative x)
-  unfolding isZero isAbove isBelow ofBits
-  one-side x one = by-sign _ _ _ _ _ _ one (not-zero margin x accepted) (positive-of-other x) (negative-of-other x)
+  unfolding isAbove isBelow ofBits
+  one-side x one = by-sign _ _ _ _ _ _ one (not-zero margin x accepted) (λ z. positive-of-other x (eq-zero x ∙ z)) (λ z. negative-of-other x (eq-zero x ∙ z))
 
   abbrev TestsOf : List Float → Type 0
   TestsOf s =
@@ -148,7 +150,7 @@ zero-margin-in-words margin zero a b h k =
     (pairs-in-words margin (zero-accepted margin zero) a b h k)
 
 pub pair-call-in-words : PairCallInWords
-unfolding arcsCrossing isZero eq
+unfolding arcsCrossing
 pair-call-in-words a b j e =
     let p = both-passed (legCheck a) (legCheck b) (judged (pairOf noMargin a b)) j e in
     subst (InWords isZero a b) (p .2) (zero-margin-in-words noMargin refl a b (p .0) (p .1))

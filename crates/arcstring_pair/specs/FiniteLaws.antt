@@ -6,9 +6,10 @@ use mathlib.Core.List.{List·Memᴰ}
 use Prim.Native.Nat.{ℕ}
 use lib.Ieee.{Float}
 use Rattle.ieee754.specs.Bound.{AtMost}
+use Rattle.ieee754.specs.Value.{isZero}
 use Rattle.sphericalpoint.specs.declared.SphericalPoint.{SphericalPoint}
 use Rattle.arcstring.specs.Leg.{Leg, legCheck}
-use Rattle.arcstring_sides.specs.Sides.{isZero, isAbove, isBelow}
+use Rattle.arcstring_sides.specs.Sides.{isAbove, isBelow}
 use Rattle.arcstring_pair.specs.Pair.{meeting, sideValues}
 
 -- each coordinate is finite, and its size is at most 2 ^ k

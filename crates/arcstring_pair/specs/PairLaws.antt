@@ -9,7 +9,7 @@ use mathlib.Core.List.{List, [], _∷_, List·Memᴰ}
 use mathlib.Core.Option.{Option, none, some}
 use lib.Dec.{eqb}
 use lib.Ieee.{Float, le}
-use Rattle.ieee754.specs.Value.{value}
+use Rattle.ieee754.specs.Value.{value, isZero}
 use Rattle.sphericalpoint.specs.declared.SphericalPoint.{SphericalPoint}
 use Rattle.sphericalpoint.specs.Vector.{xyzCross, xyzDot, xyzNeg}
 use Rattle.arcstring_check.specs.Answer.{answered, pick}
@@ -17,7 +17,7 @@ use Rattle.arcstring.specs.Points.{points}
 use Rattle.arcstring_check.specs.Check.{storedCheck, marginCheck}
 use Rattle.arcstring_pair.specs.declared.pair.Pair.{Pair}
 use Rattle.arcstring.specs.Leg.{Leg, legCheck, legs}
-use Rattle.arcstring_sides.specs.Sides.{grazes, isZero, isAbove, isBelow, signNegative, signPositive, someSide, everySide}
+use Rattle.arcstring_sides.specs.Sides.{grazes, isAbove, isBelow, signNegative, signPositive, someSide, everySide}
 use Rattle.arcstring_pair.specs.Pair.{meeting, sideValues, atEnd, pairOf}
 use Rattle.arcstring_pair.specs.Pair.{Judged, judged, keptPoint, arcsCrossing}
 

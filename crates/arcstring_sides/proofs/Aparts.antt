@@ -8,9 +8,10 @@ use native.Mathlib.Omega.{arith}
 use lib.Dec.{T}
 use lib.ListN.{length, getD}
 use lib.Ieee.{Float, nan, inf, fin, binary64, mul, lt, ofBits}
+use Rattle.ieee754.specs.Value.{zeroFloat}
 use Rattle.ieee754.proofs.Tests.{never, and-first, and-second}
 use Rattle.ieee754.proofs.Products.{product-below}
-use Rattle.arcstring_sides.specs.Sides.{zeroFloat, grazes, isZero, isAbove, isBelow, signNegative, signPositive, someSide, everySide, showsApart}
+use Rattle.arcstring_sides.specs.Sides.{grazes, isAbove, isBelow, signNegative, signPositive, someSide, everySide, showsApart}
 use Rattle.arcstring_sides.proofs.Signs.{positive-of-other, negative-of-other, above-is-no-zero, below-is-no-zero}
 use Rattle.arcstring_sides.proofs.Margins.{holds, true-of, both-clear, clear-not-grazing}
 
@@ -59,14 +60,6 @@ four-values (a ∷ b ∷ c ∷ d ∷ e ∷ s) l = absurd (omega arith)
 
 -- ---- the tests with zero
 
-above-not-zero : (x : Float) → isAbove x ≡ true → isZero x ≡ false
-unfolding isAbove isZero ofBits
-above-not-zero x h = above-is-no-zero x h
-
-below-not-zero : (x : Float) → isBelow x ≡ true → isZero x ≡ false
-unfolding isBelow isZero ofBits
-below-not-zero x h = below-is-no-zero x h
-
 one-sign : (x : Float) → signPositive x ≡ true → signNegative x ≡ false
 unfolding signPositive signNegative
 one-sign nan h = refl
@@ -84,15 +77,15 @@ other-sign (fin true m e) h = refl
 other-sign (fin false m e) h = never h
 
 pub above-not-below : (x : Float) → isAbove x ≡ true → isBelow x ≡ false
-unfolding isAbove isBelow isZero ofBits
+unfolding isAbove isBelow ofBits
 above-not-below x h =
-    let z = above-not-zero x h in
+    let z = above-is-no-zero x h in
     negative-of-other x z ∙ one-sign x (sym (positive-of-other x z) ∙ h)
 
 pub below-not-above : (x : Float) → isBelow x ≡ true → isAbove x ≡ false
-unfolding isAbove isBelow isZero ofBits
+unfolding isAbove isBelow ofBits
 below-not-above x h =
-    let z = below-not-zero x h in
+    let z = below-is-no-zero x h in
     positive-of-other x z ∙ other-sign x (sym (negative-of-other x z) ∙ h)
 
 -- ---- what is tested

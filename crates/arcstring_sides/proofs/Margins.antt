@@ -8,18 +8,18 @@ use native.Mathlib.Nat.{zero-mul}
 use native.Mathlib.Omega.{arith}
 use lib.Dec.{T}
 use lib.IntN.{ℤ}
-use lib.Ieee.{Float, nan, inf, fin, binary64, ofBits, neg, mul, lt, eq, le, up, down}
+use lib.Ieee.{Float, nan, inf, fin, binary64, mul, lt, eq, le, up, down}
 use borrow.Author.Tests.{le-ltb}
 use Rattle.ieee754.specs.Size.{abs}
-use Rattle.ieee754.specs.Value.{value}
+use Rattle.ieee754.specs.Value.{zeroFloat, isZero}
 use Rattle.ieee754.proofs.Tests.{never}
-use Rattle.ieee754.proofs.Comparisons.{le-value, zero-neg}
-use Rattle.ieee754.specs.OrderLaws.{nought, number}
+use Rattle.ieee754.specs.OrderLaws.{number}
+use Rattle.ieee754.proofs.ByValue.{zero-value}
+use Rattle.ieee754.proofs.Comparisons.{le-value, eq-zero}
 use Rattle.ieee754.proofs.Fractions.{not-above→le}
 use Rattle.ieee754.proofs.Order.{le-left, le-right, lt→le, highest, le-trans, lt-or-le, lt-not-le, lt-le-trans, lt-trans}
 use Rattle.ieee754.proofs.Products.{square-from-zero, square-mono}
-use Rattle.arcstring_sides.specs.Sides.{zeroFloat, grazes, isZero}
-use Rattle.arcstring_sides.proofs.Signs.{no-zero}
+use Rattle.arcstring_sides.specs.Sides.{grazes}
 
 -- a test by its outcome
 pub holds : {b : Bool} → b ≡ true → T b
@@ -35,30 +35,24 @@ fails false h = refl
 
 -- ---- a zero margin, of either sign, asks for zero; and a wider one takes in what a smaller one does
 
-pub zero-value : (x : Float) → isZero x ≡ true → value x ≡ value zeroFloat
-unfolding isZero
-zero-value nan h = unfold eq in never h
-zero-value (inf s) h = unfold eq in never h
-zero-value (fin s zero e) h = refl
-zero-value (fin s (suc m) e) h = unfold ofBits in never (sym (no-zero s m e) ∙ h)
-
 unsigned-not-below : (m : ℕ) (e : ℤ) → lt (fin false m e) zeroFloat ≡ false
 unfolding lt
 unsigned-not-below m e = le-ltb (m * up e * 1) (0 * down e) (omega (arith, zero-mul (down e)))
 
-size-at-most-zero : (x : Float) → le (abs x) zeroFloat ≡ eq x zeroFloat
-unfolding le abs
-size-at-most-zero nan = unfold lt in refl
-size-at-most-zero (inf s) = unfold lt eq in refl
-size-at-most-zero (fin s m e) = ap (λ (b : Bool). b || eq (fin false m e) zeroFloat) (unsigned-not-below m e) ∙ unsigned s
-  where
-    unsigned : (s : Bool) → eq (fin false m e) zeroFloat ≡ eq (fin s m e) zeroFloat
-    unsigned false = refl
-    unsigned true = unfold neg in sym (zero-neg (fin false m e))
+unsigned-at-most-zero : (m : ℕ) (e : ℤ) → le (fin false m e) zeroFloat ≡ isZero (fin false m e)
+unfolding le
+unsigned-at-most-zero m e = ap (λ (b : Bool). b || eq (fin false m e) zeroFloat) (unsigned-not-below m e) ∙ eq-zero (fin false m e)
+
+size-at-most-zero : (x : Float) → le (abs x) zeroFloat ≡ isZero x
+unfolding abs
+size-at-most-zero nan = unfold le lt eq in refl
+size-at-most-zero (inf s) = unfold le lt eq in refl
+size-at-most-zero (fin s zero e) = unsigned-at-most-zero zero e
+size-at-most-zero (fin s (suc m) e) = unsigned-at-most-zero (suc m) e
 
 pub at-zero : (margin x : Float) → isZero margin ≡ true → grazes margin x ≡ isZero x
-unfolding grazes isZero
-at-zero margin x h = le-value (abs x) (abs x) margin zeroFloat refl (zero-value margin h) ∙ size-at-most-zero x
+unfolding grazes
+at-zero margin x h = le-value (abs x) (abs x) margin zeroFloat refl (zero-value margin (holds h)) ∙ size-at-most-zero x
 
 pub wider : (m n x : Float) → le m n ≡ true → grazes m x ≡ true → grazes n x ≡ true
 unfolding grazes
@@ -69,7 +63,7 @@ pub no-graze-no-zero : (margin x : Float) → le zeroFloat margin ≡ true → g
 no-graze-no-zero margin x h k = go (isZero x) refl
   where
     go : (b : Bool) → isZero x ≡ b → b ≡ false
-    go true e = never (sym k ∙ wider zeroFloat margin x h (at-zero zeroFloat x (unfold isZero in unfold eq in refl) ∙ e))
+    go true e = never (sym k ∙ wider zeroFloat margin x h (at-zero zeroFloat x refl ∙ e))
     go false e = refl
 
 -- ---- a square above the margin's
@@ -104,7 +98,7 @@ module _ (margin : Float) where
       go : T (le (abs x) margin) → ⊥
       go h =
           let n = size-number x (le-left (abs x) margin h) in
-          let q = le-right nought (squared x) (square-from-zero binary64 x n) in
+          let q = le-right zeroFloat (squared x) (square-from-zero binary64 x n) in
           lt-not-le (squared margin) (squared x) (clear q) (square-mono binary64 x margin (at-most-size x margin h))
 
   -- the smaller of two squares is above it: so are both

@@ -61,7 +61,7 @@ positive-of-other (fin false zero e) h = never (sym h ∙ zero-level false e)
 positive-of-other (fin false (suc m) e) h = lt-ltb (0 * down e) (suc m * up e * 1) (omega (arith, zero-mul (down e), scaled-pos m e))
 
 -- what is above zero or below it is no zero
-pub no-zero : (s : Bool) (m : ℕ) (e : ℤ) → eq (fin s (suc m) e) zero64 ≡ false
+no-zero : (s : Bool) (m : ℕ) (e : ℤ) → eq (fin s (suc m) e) zero64 ≡ false
 no-zero s m e = go (eq (fin s (suc m) e) zero64) refl
   where
     go : (b : Bool) → eq (fin s (suc m) e) zero64 ≡ b → b ≡ false

@@ -1,20 +1,13 @@
 -- Tests of the four side values of a pair of legs, as docs/TERMS.md and the Rust's `arcs_crossing` have them. Definitions only.
 use mathlib.Core.Bool.{Bool, true, false, not, _&&_, _||_}
 use mathlib.Core.List.{List, [], _∷_}
-use lib.IntN.{pos}
-use lib.Ieee.{Float, nan, inf, fin, lt, eq, le}
+use lib.Ieee.{Float, nan, inf, fin, lt, le}
 use Rattle.ieee754.specs.Size.{abs}
-
-abbrev pub zeroFloat : Float
-zeroFloat = fin false 0 (pos 0)
+use Rattle.ieee754.specs.Value.{zeroFloat}
 
 -- a side value grazes: its size is at most the margin
 unfoldable pub grazes : Float → Float → Bool
 grazes margin x = le (abs x) margin
-
--- zero, of either sign
-unfoldable pub isZero : Float → Bool
-isZero x = eq x zeroFloat
 
 unfoldable pub isAbove : Float → Bool
 isAbove x = lt zeroFloat x

@@ -26,7 +26,7 @@ value-float (vinf s) = refl
 value-float vzero = refl
 value-float (vnum s n e) = refl
 
-zero-value : (x : Float) → T (isZero x) → value x ≡ vzero
+pub zero-value : (x : Float) → T (isZero x) → value x ≡ vzero
 zero-value nan t = absurd t
 zero-value (inf s) t = absurd t
 zero-value (fin s zero e) t = refl

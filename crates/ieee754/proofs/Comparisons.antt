@@ -5,17 +5,14 @@ use Prim.Native.Nat.{ℕ, zero, suc, _*_, _<_}
 use native.Mathlib.Nat.{zero-mul, zero-add, add-zero, mul-pos, zero-lt-suc}
 use native.Mathlib.Omega.{arith}
 use mathlib.Core.Bool.{Bool, true, false, not, _&&_, _||_, Bool·beq, Bool·not-not}
-use lib.Dec.{T, ltb, eqb, ltb→lt, lt→ltb, leb·suc-zero, eqb→eq}
+use lib.Dec.{T, ltb, eqb, ltb→lt, lt→ltb, leb·suc-zero, eqb·zero-suc, eqb→eq}
 use lib.IntN.{ℤ, pos}
 use lib.Ieee.{Float, nan, inf, fin, up, down, below, level, neg, lt, eq, le, ne}
-use lib.Ieee.Fits.{down-pos, and-i, and-l, and-r, eq→eqb}
+use lib.Ieee.Fits.{up-pos, down-pos, and-i, and-l, and-r, eq→eqb}
 use lib.Ieee.Positive.{first-pos}
-use Rattle.ieee754.specs.Value.{Value, value, float}
-use Rattle.ieee754.specs.ValueLaws.{LtValue, EqValue, LeValue, NeValue}
+use Rattle.ieee754.specs.Value.{Value, value, zeroFloat, float}
+use Rattle.ieee754.specs.ValueLaws.{LtValue, EqValue, LeValue, NeValue, EqZero}
 use Rattle.ieee754.proofs.ByValue.{zero-times}
-
-abbrev pub zeroFloat : Float
-zeroFloat = fin false 0 (pos 0)
 
 same-test : (a b : Bool) → (T a → T b) → (T b → T a) → a ≡ b
 same-test true true f g = refl
@@ -135,6 +132,15 @@ eq-zero-l s e t n d =
     ∙ level-zero s t (n * up d * down e)
     ∙ zero-scale (n * up d) (down e) (down-pos e)
 
+eq-zero-r : (t : Bool) (n : ℕ) (d : ℤ) → eq (fin t n d) zeroFloat ≡ eqb 0 n
+eq-zero-r t n d = eq-comm (fin t n d) zeroFloat ∙ eq-zero-l false (pos 0) t n d ∙ zero-scale n (up d) (up-pos d)
+
+pub eq-zero : EqZero
+eq-zero nan = unfold eq in refl
+eq-zero (inf s) = unfold eq in refl
+eq-zero (fin s zero e) = eq-zero-r s zero e
+eq-zero (fin s (suc m) e) = eq-zero-r s (suc m) e ∙ eqb·zero-suc m
+
 eq-float-l : (x y : Float) → eq x y ≡ eq (float (value x)) y
 eq-float-l nan y = refl
 eq-float-l (inf s) y = refl
@@ -158,14 +164,6 @@ unfolding ne
 ne-value x x' y y' p q = ap not (eq-value x x' y y' p q)
 
 -- ---- the sign
-pub zero-neg : (x : Float) → eq (neg x) zeroFloat ≡ eq x zeroFloat
-zero-neg nan = unfold neg in refl
-zero-neg (inf s) = unfold neg eq in refl
-zero-neg (fin s m e) = unfold neg in at (not s) ∙ sym (at s)
-  where
-    at : (t : Bool) → eq (fin t m e) zeroFloat ≡ eqb 0 (m * up e)
-    at t = eq-comm (fin t m e) zeroFloat ∙ eq-zero-l false (pos 0) t m e
-
 pub neg-pos : (x : Float) → lt (neg x) zeroFloat ≡ lt zeroFloat x
 neg-pos nan = unfold neg lt in refl
 neg-pos (inf s) = unfold neg lt in refl

@@ -14,8 +14,8 @@ use lib.Ieee.Order.{round-mono}
 use lib.Ieee.Scale.{finite}
 use lib.Ieee.Positive.{den, den-pos}
 use Rattle.ieee754.specs.Size.{abs}
-use Rattle.ieee754.specs.Value.{value}
-use Rattle.ieee754.specs.OrderLaws.{nought, number, SquareMono, ProductBelow}
+use Rattle.ieee754.specs.Value.{value, zeroFloat}
+use Rattle.ieee754.specs.OrderLaws.{number, SquareMono, ProductBelow}
 use Rattle.ieee754.proofs.Rounding.{round-zero}
 use Rattle.ieee754.proofs.ByValue.{zero-times}
 use Rattle.ieee754.proofs.Comparisons.{le-value, lt-value}
@@ -62,17 +62,17 @@ unfolding mul
 infinite-square f true = refl
 infinite-square f false = refl
 
-not-below : (f : Format) (a c : ℕ) → 0 < c → T (le nought (round f false a c))
+not-below : (f : Format) (a c : ℕ) → 0 < c → T (le zeroFloat (round f false a c))
 not-below f a c pos-c =
-    subst T (le-value (round f false 0 c) nought (round f false a c) (round f false a c) (round-zero f false c) refl)
+    subst T (le-value (round f false 0 c) zeroFloat (round f false a c) (round f false a c) (round-zero f false c) refl)
     (round-mono f 0 c a c pos-c pos-c (mul-le-mul-right c zero-le))
 
 -- a square of a number is one, and not below zero
-pub square-from-zero : (f : Format) (x : Float) → T (number x) → T (le nought (mul f x x))
+pub square-from-zero : (f : Format) (x : Float) → T (number x) → T (le zeroFloat (mul f x x))
 square-from-zero f nan n = absurd n
-square-from-zero f (inf s) n = subst (λ (y : Float). T (le nought y)) (sym (infinite-square f s)) (highest nought tt)
+square-from-zero f (inf s) n = subst (λ (y : Float). T (le zeroFloat y)) (sym (infinite-square f s)) (highest zeroFloat tt)
 square-from-zero f (fin s m e) n =
-    subst (λ (y : Float). T (le nought y)) (sym (square-is f (fin s m e) tt))
+    subst (λ (y : Float). T (le zeroFloat y)) (sym (square-is f (fin s m e) tt))
     (not-below f (m * up e * (m * up e)) (down e * down e) (mul-pos (down-pos e) (down-pos e)))
 
 pub square-mono : SquareMono
@@ -85,45 +85,45 @@ square-mono f (inf s) (fin t n d) h = unfold abs le in absurd h
 square-mono f (fin s m e) nan h = absurd (le-right (fin false m e) nan (unfold abs in h))
 square-mono f (fin s m e) (inf t) h =
     let q = mul f (fin s m e) (fin s m e) in
-    subst (λ (z : Float). T (le q z)) (sym (infinite-square f t)) (highest q (le-right nought q (square-from-zero f (fin s m e) tt)))
+    subst (λ (z : Float). T (le q z)) (sym (infinite-square f t)) (highest q (le-right zeroFloat q (square-from-zero f (fin s m e) tt)))
 square-mono f (fin s m e) (fin t n d) h = finite-squares f (fin s m e) (fin t n d) tt tt h
 
 -- ---- products
 
 abbrev Opposite : Float → Float → Type 0
-Opposite x y = (T (lt nought x) × T (lt y nought)) ⊎ (T (lt x nought) × T (lt nought y))
+Opposite x y = (T (lt zeroFloat x) × T (lt y zeroFloat)) ⊎ (T (lt x zeroFloat) × T (lt zeroFloat y))
 
 -- an infinity or a number of a sign is above zero or below it
-above : (m : ℕ) (e : ℤ) → T (lt nought (fin false (suc m) e))
+above : (m : ℕ) (e : ℤ) → T (lt zeroFloat (fin false (suc m) e))
 unfolding lt
 above m e = lt→ltb (0 * down e) (suc m * up e * 1) (let p : 0 < suc m * up e = mul-pos (omega arith) (up-pos e) in omega (arith, p))
 
-below : (m : ℕ) (e : ℤ) → T (lt (fin true (suc m) e) nought)
+below : (m : ℕ) (e : ℤ) → T (lt (fin true (suc m) e) zeroFloat)
 unfolding lt
 below m e = lt→ltb 0 (suc m * up e * 1 + 0 * down e) (let p : 0 < suc m * up e = mul-pos (omega arith) (up-pos e) in omega (arith, p))
 
 times-zero : (a b : ℕ) → a * (0 * b) ≡ 0
 times-zero a b = ap (λ (n : ℕ). a * n) (zero-mul b) ∙ mul-zero a
 
-no-below : T (lt nought nought) → ⊥
+no-below : T (lt zeroFloat zeroFloat) → ⊥
 unfolding lt
 no-below h = h
 
 -- a rounded zero is not below zero
-zero-not-below : (f : Format) (s : Bool) (a c : ℕ) → a ≡ 0 → T (lt (round f s a c) nought) → ⊥
+zero-not-below : (f : Format) (s : Bool) (a c : ℕ) → a ≡ 0 → T (lt (round f s a c) zeroFloat) → ⊥
 zero-not-below f s a c e h =
     let q = round f s a c in
-    let z : value q ≡ value nought = rw e (round-zero f s c) in
-    no-below (subst T (lt-value q nought nought nought z refl) h)
+    let z : value q ≡ value zeroFloat = rw e (round-zero f s c) in
+    no-below (subst T (lt-value q zeroFloat zeroFloat zeroFloat z refl) h)
 
 -- of two numbers, by their signs
-finite-product : (f : Format) (s : Bool) (m : ℕ) (e : ℤ) (t : Bool) (n : ℕ) (d : ℤ) → T (lt (mul f (fin s m e) (fin t n d)) nought)
+finite-product : (f : Format) (s : Bool) (m : ℕ) (e : ℤ) (t : Bool) (n : ℕ) (d : ℤ) → T (lt (mul f (fin s m e) (fin t n d)) zeroFloat)
     → Opposite (fin s m e) (fin t n d)
 unfolding mul
 finite-product f true m e true n d h =
-    absurd (lt-not-le _ nought h (not-below f (m * up e * (n * up d)) (down e * down d) (mul-pos (down-pos e) (down-pos d))))
+    absurd (lt-not-le _ zeroFloat h (not-below f (m * up e * (n * up d)) (down e * down d) (mul-pos (down-pos e) (down-pos d))))
 finite-product f false m e false n d h =
-    absurd (lt-not-le _ nought h (not-below f (m * up e * (n * up d)) (down e * down d) (mul-pos (down-pos e) (down-pos d))))
+    absurd (lt-not-le _ zeroFloat h (not-below f (m * up e * (n * up d)) (down e * down d) (mul-pos (down-pos e) (down-pos d))))
 finite-product f true zero e false n d h =
     absurd (zero-not-below f true (0 * up e * (n * up d)) (down e * down d) (zero-times (up e) (n * up d)) h)
 finite-product f false zero e true n d h =
@@ -136,7 +136,7 @@ finite-product f true (suc m) e false (suc n) d h = inr (below m e, above n d)
 finite-product f false (suc m) e true (suc n) d h = inl (above m e, below n d)
 
 -- of an infinity and what is no zero
-infinite-sign : (b s : Bool) → T (lt (cond b nan (inf s)) nought) → T s
+infinite-sign : (b s : Bool) → T (lt (cond b nan (inf s)) zeroFloat) → T s
 unfolding lt
 infinite-sign true s h = absurd h
 infinite-sign false s h = h

@@ -5,12 +5,9 @@ use mathlib.Core.Path.{_≡_}
 use mathlib.Core.Logic.{_⊎_}
 use mathlib.Core.Bool.{Bool, true, false, not}
 use lib.Dec.{T}
-use lib.IntN.{pos}
 use lib.Ieee.{Float, nan, inf, fin, Format, mul, lt, le}
 use Rattle.ieee754.specs.Size.{abs}
-
-abbrev pub nought : Float
-nought = fin false 0 (pos 0)
+use Rattle.ieee754.specs.Value.{zeroFloat}
 
 -- no NaN
 abbrev pub number : Float → Bool
@@ -44,4 +41,4 @@ SquareMono = (f : Format) (x y : Float) → T (le (abs x) (abs y)) → T (le (mu
 -- a product is below zero only where of the factors one is above it and the other below
 abbrev pub ProductBelow : Type 0
 ProductBelow =
-    (f : Format) (x y : Float) → T (lt (mul f x y) nought) → (T (lt nought x) × T (lt y nought)) ⊎ (T (lt x nought) × T (lt nought y))
+    (f : Format) (x y : Float) → T (lt (mul f x y) zeroFloat) → (T (lt zeroFloat x) × T (lt y zeroFloat)) ⊎ (T (lt x zeroFloat) × T (lt zeroFloat y))

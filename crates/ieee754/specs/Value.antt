@@ -22,13 +22,18 @@ value (inf s) = vinf s
 value (fin s zero e) = vzero
 value (fin s (suc n) e) = vnum s n e
 
+-- the zero whose sign is clear, as the Rust writes 0.0
+abbrev pub zeroFloat : Float
+zeroFloat = fin false 0 (pos 0)
+
 -- a float that has the value
 abbrev pub float : Value → Float
 float vnan = nan
 float (vinf s) = inf s
-float vzero = fin false 0 (pos 0)
+float vzero = zeroFloat
 float (vnum s n e) = fin s (suc n) e
 
+-- a zero, of either sign
 abbrev pub isZero : Float → Bool
 isZero nan = false
 isZero (inf s) = false

@@ -2,7 +2,7 @@
 -- `proofs/ByValue.antt`, `Comparisons.antt` and `Arithmetic.antt`: `AddValue` is proved by `add-value`, and so on.
 use mathlib.Core.Path.{_≡_}
 use lib.Ieee.{Float, Format, neg, add, sub, mul, lt, eq, le, ne}
-use Rattle.ieee754.specs.Value.{value, Alike}
+use Rattle.ieee754.specs.Value.{value, zeroFloat, isZero, Alike}
 use Rattle.ieee754.specs.Size.{abs}
 
 -- ---- two floats of the same value are the same float or two zeros, and the other way round
@@ -43,6 +43,11 @@ LeValue = (x x' y y' : Float) → value x ≡ value x' → value y ≡ value y' 
 
 abbrev pub NeValue : Type 0
 NeValue = (x x' y y' : Float) → value x ≡ value x' → value y ≡ value y' → ne x y ≡ ne x' y'
+
+-- ---- what equals 0.0 is a zero, of either sign
+
+abbrev pub EqZero : Type 0
+EqZero = (x : Float) → eq x zeroFloat ≡ isZero x
 
 -- ---- what holds of the floats themselves, the signs of zeros included
 

@@ -7,7 +7,7 @@ use lib.Dec.{T}
 use lib.Ieee.Fits.{and-l}
 use lib.Ieee.{Float, nan, inf, fin, neg, lt}
 use Rattle.ieee754.specs.Size.{abs}
-use Rattle.ieee754.specs.Value.{value}
+use Rattle.ieee754.specs.Value.{value, zeroFloat}
 use Rattle.ieee754.proofs.ByValue.{abs-value}
 use Rattle.ieee754.proofs.Comparisons.{lt-value, le-value, pos-neg, neg-pos, not-both-signs}
 use Rattle.sphericalpoint.specs.declared.SphericalPoint.{SphericalPoint}
@@ -17,7 +17,7 @@ use Rattle.arcstring_pair.specs.declared.pair.Pair.{Pair}
 use Rattle.arcstring_pair.specs.declared.pair.Pair.the-variants.{Clean, End, Grazing, Apart}
 use Rattle.arcstring_pair.specs.declared.pair.Outcome.{Outcome}
 use Rattle.arcstring.specs.Leg.{Leg, leg}
-use Rattle.arcstring_sides.specs.Sides.{zeroFloat, grazes, isAbove, isBelow, someSide, everySide}
+use Rattle.arcstring_sides.specs.Sides.{grazes, isAbove, isBelow, someSide, everySide}
 use Rattle.arcstring_pair.specs.Pair.{normal, meeting, sideFrom, sideTo, sideValues, atEnd}
 use Rattle.arcstring_pair.specs.Pair.{grazingOutcome, endOrClean, classAt, pairOf}
 use Rattle.same_crossings.specs.Changes.{PointValue, pointValue}
