@@ -4,7 +4,8 @@
 // No contract can say what is read from a descriptor. Those below say: there are pieces of 1 to 4,096 bytes, and what is held, and
 // then printed, is that of the pieces one after another; and the input is whole only where a turn's answer was 0. What is left to be
 // read in the code: that `got` and the bytes of a turn are those of one read of standard input, that no other read is made, so that
-// the loop goes on until a read gives none, and that `main` writes what there is to print and nothing else.
+// the loop goes on until a read gives none, that the input is said to have failed only where a read's answer was negative, and that
+// `main` writes what there is to print and nothing else.
 //
 // A read that fails is no end of the input: nothing is printed then, and a line on standard error says so, as it does where a write
 // fails. The status is 0 all the same, since a program in Rattle has no other: the empty output and that line stand in for it.
@@ -19,6 +20,7 @@ ghost use Rattle.legcount.specs.Input.{HeldWhole, PrintsWhole};
 use textform::inner::print;
 use textform::inner::read;
 use textform::inner::read::Reader;
+use textform::inner::say;
 use textform_count::inner::count;
 
 // The reader after one read of the input, and what that read answered: how many bytes, 0 at the end, or a negative number.
@@ -89,20 +91,11 @@ fn read_and_count(out: &mut [u8]) -> Said
     }
 }
 
-// A line on standard error. Whether it comes through is nothing that the program could tell.
-fn complain(line: &[u8]) {
-    io::write_all(libc::STDERR_FILENO, line);
-}
-
 fn main() {
     let mut out = [0u8; print::PRINT_ROOM];
     let said = read_and_count(&mut out);
     match said {
-        Said::Text(n) => {
-            if !io::write_all(libc::STDOUT_FILENO, &out[..n]) {
-                complain(b"write failed\n");
-            }
-        }
-        Said::Failed => complain(b"read failed\n"),
+        Said::Text(n) => say::text(&out[..n]),
+        Said::Failed => say::failure(b"read failed\n"),
     }
 }

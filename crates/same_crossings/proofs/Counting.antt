@@ -40,7 +40,7 @@ counts-sum ps = all-classes ps
 
 -- ---- two strings
 
-legs-length : (ps : List SphericalPoint) (closed : Bool) → length (legs ps closed) ≡ legCount (length ps) closed
+pub legs-length : (ps : List SphericalPoint) (closed : Bool) → length (legs ps closed) ≡ legCount (length ps) closed
 unfolding legCount
 legs-length ps true = length-legs ps
 legs-length ps false = length-open-legs ps

@@ -1,5 +1,4 @@
--- The whole reading: it may be done in pieces, the theorem of `specs/TextLaws.antt`; and what the code keeps of it is what is kept of the plain reading.
--- Assumes nothing.
+-- The whole reading: what the code keeps of it is what is kept of the plain reading. Assumes nothing.
 use mathlib.Core.Path.{_≡_, refl, sym, ap, _∙_}
 use mathlib.Core.Bool.{Bool, true, false}
 use mathlib.Core.List.{List, [], _∷_, _++_, map, map-append}
@@ -16,17 +15,9 @@ use Rattle.textform.specs.declared.inner.read.Part.{Part}
 use Rattle.textform.specs.declared.inner.read.Part.the-variants as P
 use Rattle.textform.specs.Text.{letterA, letterB, State, start, partAt, placeAfter, hexDigit, malformed, onward, ifDigit, append, withFloat, stepAt}
 use Rattle.textform.specs.Text.{stepWith, fedWith, reading}
+use Rattle.textform.specs.Text.{inTurn}
 use Rattle.textform.specs.Kept.{floatsKept, inPlace, keep, keptReading}
-use Rattle.textform.specs.TextLaws.{FedInPieces}
 use Rattle.textform.proofs.inner.read.Keeping.{keep-full, keep-more}
-
--- ---- in pieces
-
--- bytes in two pieces, one after the other
-pub fed-in-pieces : FedInPieces
-unfolding fedWith
-fed-in-pieces add s [] ys = refl
-fed-in-pieces add s (x ∷ xs) ys = fed-in-pieces add (stepWith add s x) xs ys
 
 -- ---- what is kept
 
@@ -105,12 +96,12 @@ module _ (s : State) where
       by-digit (some d) = kept-float (ofBits binary64 (16 * s .word + d))
   kept-part P.Nothing byte = refl
 
-  kept-step : (byte : ℕ) → stepWith keep (keptState s) byte ≡ keptState (stepWith append s byte)
+  pub kept-step : (byte : ℕ) → stepWith keep (keptState s) byte ≡ keptState (stepWith append s byte)
   unfolding stepWith
   kept-step byte = kept-part (partAt (s .place)) byte
 
 kept-fed : (s : State) (bytes : List ℕ) → fedWith keep (keptState s) bytes ≡ keptState (fedWith append s bytes)
-unfolding fedWith
+unfolding inTurn
 kept-fed s [] = refl
 kept-fed s (byte ∷ bytes) = ap (λ (t : State). fedWith keep t bytes) (kept-step s byte) ∙ kept-fed (stepWith append s byte) bytes
 

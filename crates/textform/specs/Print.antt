@@ -5,7 +5,7 @@ use lib.Dec.{ltb}
 use Rattle.arcstring_check.specs.Answer.{pick}
 use Rattle.textform.specs.Text.{blank, lineFeed}
 
--- room for every text that is printed
+-- room for a refusal, and for what the counting program prints
 abbrev pub printRoom : ℕ
 printRoom = 128
 

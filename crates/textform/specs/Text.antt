@@ -36,6 +36,10 @@ namesLine = 115 ∷ 116 ∷ 114 ∷ 105 ∷ 110 ∷ 103 ∷ 32 ∷ 120 ∷ 32 �
 abbrev pub rowStart : ℕ
 rowStart = 13
 
+-- past a row's name and the blank after it
+abbrev pub pastName : ℕ
+pastName = 15
+
 abbrev pub rowLast : ℕ
 rowLast = 65
 
@@ -78,6 +82,11 @@ hexDigit byte =
 
 -- ---- the machine
 
+-- the bytes in turn, whatever each of them does
+unfoldable pub inTurn : {S : Type 0} → (S → ℕ → S) → S → List ℕ → S
+inTurn step s [] = s
+inTurn step s (byte ∷ bytes) = inTurn step (step s byte) bytes
+
 -- The place of the next byte; whether its row is B's; the digits of its float so far, as a number; and the floats of A and of B.
 pub record State : Type 0 where
   pub place : ℕ
@@ -95,6 +104,14 @@ malformed s = record { place = malformedPlace; second = s .second; word = 0; a =
 -- on to the next place: in a row of this string, with these digits
 abbrev pub onward : Bool → ℕ → State → State
 onward second word s = record { place = placeAfter (s .place); second = second; word = word; a = s .a; b = s .b }
+
+-- past the name of its string and the blank after it, at the start of a row
+abbrev pub inRow : Bool → State → State
+inRow second s = record { place = pastName; second = second; word = 0; a = s .a; b = s .b }
+
+-- without the floats of B
+abbrev pub withoutSecond : State → State
+withoutSecond s = record { place = s .place; second = s .second; word = s .word; a = s .a; b = [] }
 
 abbrev pub ifDigit : Option ℕ → (ℕ → State) → State → State
 ifDigit none f other = other
@@ -122,10 +139,8 @@ module _ (add : Float → List Float → List Float) where
   unfoldable pub stepWith : State → ℕ → State
   stepWith s byte = stepAt (partAt (s .place)) s byte
 
-  -- the bytes in turn
-  unfoldable pub fedWith : State → List ℕ → State
-  fedWith s [] = s
-  fedWith s (byte ∷ bytes) = fedWith (stepWith s byte) bytes
+  abbrev pub fedWith : State → List ℕ → State
+  fedWith = inTurn stepWith
 
 -- every float at the end of its list
 abbrev pub append : Float → List Float → List Float

@@ -39,7 +39,7 @@ in-range-same nan h = absurd (false≢true h)
 in-range-same (inf s) h = refl
 in-range-same (fin s m e) h = refl
 
-both-true : (t u : Bool) → t && u ≡ true → (t ≡ true) × (u ≡ true)
+pub both-true : (t u : Bool) → t && u ≡ true → (t ≡ true) × (u ≡ true)
 both-true true u h = (refl, h)
 both-true false u h = absurd (false≢true h)
 
@@ -78,7 +78,7 @@ behind-checks zero (suc n) x y h = refl
 behind-checks (suc m) n x y h = refl
 
 -- two lists of whole triples are counted as they are
-kept-built : (a b : List Float) → length a % 3 ≡ 0 → length b % 3 ≡ 0 → countBuilt (keptOf a) (keptOf b) ≡ countBuilt a b
+pub kept-built : (a b : List Float) → length a % 3 ≡ 0 → length b % 3 ≡ 0 → countBuilt (keptOf a) (keptOf b) ≡ countBuilt a b
 unfolding countBuilt
 kept-built a b h k =
     ap₂ (λ (m n : ℕ). unlessRefused m (unlessRefused n (counts (keptOf a) (keptOf b)))) (kept-check a h) (kept-check b k)
@@ -88,7 +88,7 @@ kept-built a b h k =
     counts v w = answered (countsBetween (builtString (points v)) (builtString (points w)))
 
 -- a choice by a test, which makes the first two the same where it holds
-pick-same : {A : Type 0} (t : Bool) (x y z : A) → (t ≡ true → x ≡ y) → pick t x z ≡ pick t y z
+pub pick-same : {A : Type 0} (t : Bool) (x y z : A) → (t ≡ true → x ≡ y) → pick t x z ≡ pick t y z
 pick-same true x y z h = h refl
 pick-same false x y z h = refl
 

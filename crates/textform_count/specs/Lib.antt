@@ -1,5 +1,5 @@
 -- The definitions of the counting program: what is counted, what is printed; and what is claimed of it (`CountLaws`). `Plain` serves inner contracts, `Pieces`
--- those of a program that reads its input piece by piece.
+-- those of the program, which reads its input piece by piece.
 pub mod Print
 pub mod Count
 pub mod Plain

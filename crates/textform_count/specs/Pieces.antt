@@ -1,31 +1,17 @@
--- The input as a program reads it: in pieces, one after another. Nothing can say what is read from a descriptor, so that a contract says with these: there are
--- such pieces, and what is held, or printed, is that of all of them in a row. Definitions only.
+-- What the counting program holds, and prints, of an input that it reads in pieces, one after another (textform's `Pieces`). Definitions only.
 use mathlib.Core.Path.{_≡_}
-use mathlib.Core.List.{List, flatten, List·Memᴰ}
-use Prim.Native.Nat.{ℕ, _≤_}
-use lib.ListN.{length}
+use mathlib.Core.List.{List}
+use Prim.Native.Nat.{ℕ}
 use lib.Ieee.{Float}
 use Rattle.textform.specs.declared.inner.read.Reader.{Reader}
 use Rattle.textform.specs.Kept.{heldState, Sound, keptReading}
+use Rattle.textform.specs.Pieces.{OfPieces}
 use Rattle.textform_count.specs.Count.{output}
 
--- the bytes of a buffer
-abbrev pub mostRead : ℕ
-mostRead = 4096
-
--- at least 1 byte, and at most those of a buffer
-abbrev pub OneRead : List ℕ → Type 0
-OneRead piece = (1 ≤ length piece) × (length piece ≤ mostRead)
-
 -- the reader and the two lists hold what was kept of the pieces, one after another
-pub record ReadInPieces (r : Reader) (a b : List Float) : Type 0 where
-  pub pieces : List (List ℕ)
-  pub each : (piece : List ℕ) → List·Memᴰ piece pieces → OneRead piece
-  pub sound : Sound r
-  pub held : heldState r a b ≡ keptReading (flatten pieces)
+abbrev pub ReadInPieces : Reader → List Float → List Float → Type 0
+ReadInPieces r a b = OfPieces (λ (bytes : List ℕ). Sound r × (heldState r a b ≡ keptReading bytes))
 
 -- the text is what is printed for the pieces, one after another
-pub record PrintedOfPieces (text : List ℕ) : Type 0 where
-  pub pieces : List (List ℕ)
-  pub each : (piece : List ℕ) → List·Memᴰ piece pieces → OneRead piece
-  pub printed : text ≡ output (flatten pieces)
+abbrev pub PrintedOfPieces : List ℕ → Type 0
+PrintedOfPieces text = OfPieces (λ (bytes : List ℕ). text ≡ output bytes)

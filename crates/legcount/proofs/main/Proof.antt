@@ -1,4 +1,4 @@
--- `main` writes what was concluded, and says what failed. Assumes nothing.
+-- `main` writes what was concluded, or says what failed. Assumes nothing.
 use mathlib.Core.Path.{sym, subst}
 use native.Mathlib.Omega.{arith}
 use lib.Seq.{length-take-le}
@@ -29,35 +29,27 @@ enum-known-said c = search needs
 array-share-prefix-out : tie.Need-array-share-prefix-out
 array-share-prefix-out c = let few = to-print (c .before) .1 in omega (arith, counted (c .before) .read-and-count .kept .0)
 
-slice-aggregate-write-all : tie.Need-slice-aggregate-write-all
-slice-aggregate-write-all c = sym (length-take-le _ (counted (c .before .before) .read-and-count .last .0) (array-share-prefix-out (c .before)))
+slice-aggregate-text : tie.Need-slice-aggregate-text
+slice-aggregate-text c =
+    sym (length-take-le _ (counted (c .before .before) .read-and-count .last .0) (array-share-prefix-out (c .before)))
 
-write-all-requires : tie.Need-write-all-requires
-write-all-requires c κs = search needs
-
-slice-aggregate-complain : tie.Need-slice-aggregate-complain
-slice-aggregate-complain c = search needs
-
-complain-requires : tie.Need-complain-requires
-complain-requires c κs = search needs
+text-requires : tie.Need-text-requires
+text-requires c κs = search needs
 
 enum-told : tie.Need-enum-told
 enum-told c = search needs
 
-slice-aggregate-complain-2 : tie.Need-slice-aggregate-complain-2
-slice-aggregate-complain-2 c = search needs
+slice-aggregate-failure : tie.Need-slice-aggregate-failure
+slice-aggregate-failure c = search needs
 
-complain-requires-2 : tie.Need-complain-requires-2
-complain-requires-2 c κs = search needs
+failure-requires : tie.Need-failure-requires
+failure-requires c κs = search needs
 
 returns : tie.Need-returns
 returns c = search needs
 
 returns-2 : tie.Need-returns-2
 returns-2 c = search needs
-
-returns-3 : tie.Need-returns-3
-returns-3 c = search needs
 
 pub main-spec : {M : Type 1} → statement M
 main-spec =
@@ -67,13 +59,10 @@ main-spec =
     read-and-count-requires
     enum-known-said
     array-share-prefix-out
-    slice-aggregate-write-all
-    write-all-requires
-    slice-aggregate-complain
-    complain-requires
+    slice-aggregate-text
+    text-requires
     enum-told
-    slice-aggregate-complain-2
-    complain-requires-2
+    slice-aggregate-failure
+    failure-requires
     returns
-    returns-2
-    returns-3)
+    returns-2)

@@ -6,9 +6,10 @@ use lib.ListN.{length}
 use mir.Syntax.{w64}
 use mir.Val.{SFits}
 use Rattle.textform.specs.Kept.{floatsKept}
-use Rattle.textform_count.specs.Pieces.{mostRead, ReadInPieces}
+use Rattle.textform.specs.Pieces.{mostRead}
+use Rattle.textform.proofs.Answers.{at-end, nothing-read, some-read}
+use Rattle.textform_count.specs.Pieces.{ReadInPieces}
 use Rattle.textform_count.proofs.Pieces.{no-pieces, one-more, none-more}
-use Rattle.legcount.proofs.Answers.{at-end, nothing-read, some-read}
 use borrow.Author.Needs.{needs}
 use Rattle.legcount.proofs.read_all.Statement.{statement}
 use Rattle.legcount.proofs.read_all.Tie as tie
@@ -58,7 +59,7 @@ slice-aggregate-read-some : tie.Need-slice-aggregate-read-some Inv-loop μ-loop
 slice-aggregate-read-some c = sym (c .before .before .loop .inv .3)
 
 read-some-requires : tie.Need-read-some-requires Inv-loop μ-loop
-read-some-requires c κs = let v = c .before .before .before .before .loop .inv in (v .0 .sound, v .1, v .2)
+read-some-requires c κs = let v = c .before .before .before .before .loop .inv in (v .0 .holds .0, v .1, v .2)
 
 same-length : tie.Need-same-length Inv-loop μ-loop
 same-length c = let f = read (c .before) in first-length f ∙ sym (start (at-loop f) .pre .0)

@@ -39,7 +39,7 @@ conclude-requires c κs =
     let n = c .before .before .before .before in
     let start = read n .before .before .before .before in
     let r = read n .read-all in
-    (read-whole n .1 .sound, r .kept .0, r .kept .1 .0, start .pre)
+    (read-whole n .1 .holds .0, r .kept .0, r .kept .1 .0, start .pre)
 
 enum-told : tie.Need-enum-told
 enum-told c = search needs

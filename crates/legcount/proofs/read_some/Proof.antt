@@ -1,9 +1,11 @@
--- `read_some` feeds what one read gave: as many bytes of the buffer as the read answered, by `Answers`. Assumes nothing.
+-- `read_some` feeds what one read gave: as many bytes of the buffer as the read answered, by textform's `Answers`. Assumes nothing.
 use mathlib.Core.Path.{sym}
 use lib.Seq.{length-take-le}
 use mir.Syntax.{w64}
 use mir.Val.{toZ, ofZ}
-use Rattle.legcount.proofs.Answers.{fed-as-read}
+use Rattle.textform.specs.Text.{fedWith}
+use Rattle.textform.specs.Kept.{keep}
+use Rattle.textform.proofs.Answers.{fed-as-read}
 use borrow.Author.Needs.{needs}
 use Rattle.legcount.proofs.read_some.Statement.{statement}
 use Rattle.legcount.proofs.read_some.Tie as tie
@@ -38,7 +40,7 @@ returns c =
     let n = f .before .before .before .before in
     let r = n .before .before .before .before .read in
     let got = toZ w64 (ofZ w64 (r .result)) in
-    (f .feed .ensures .0, fed-as-read got _ _ (n .count .result) _ (r .last .1 .0) (f .feed .ensures .1) (n .count .ensures .1) (r .kept .1 .0))
+    (f .feed .ensures .0, fed-as-read (fedWith keep) got _ _ (n .count .result) _ (r .last .1 .0) (f .feed .ensures .1) (n .count .ensures .1) (r .kept .1 .0))
 
 pub read-some-spec : {M : Type 1} → statement M
 read-some-spec =

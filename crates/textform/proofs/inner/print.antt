@@ -1,4 +1,4 @@
 -- The laws of printing: bytes written one after the other, the decimal digits of a number, the whole text.
 mod Texts
-mod Decimals
+pub mod Decimals
 pub mod Printed

@@ -5,7 +5,7 @@ ghost use Prim.Native.Nat.{_+_, _≤_, _<_};
 ghost use lib.ListN.{length, take};
 ghost use Rattle.textform.specs.Print.{printRoom, mostDigits, decimal, refusalText};
 
-// Room for every text that is printed.
+// Room for a refusal, and for what the counting program prints.
 pub const PRINT_ROOM: usize = 128;
 
 // The most decimal digits of a number.

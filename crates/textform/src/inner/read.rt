@@ -14,6 +14,9 @@ ghost use Rattle.textform.specs.Kept as Kept;
 // The place of a row's first byte, and so how long the names line is.
 pub const ROW_START: usize = 13;
 
+// The place past a row's name and the blank after it.
+const PAST_NAME: usize = 15;
+
 // The place of a row's last byte.
 const ROW_LAST: usize = 65;
 
@@ -201,7 +204,7 @@ fn with_float(r: Reader, word: u64, a: &mut [f64], b: &mut [f64]) -> Reader
 }
 
 // To where malformed input ends up, and stays.
-fn malformed(r: Reader) -> Reader
+pub fn malformed(r: Reader) -> Reader
     requires { ⌜ Sound r ⌝ }
     ensures { λ q. ⌜ Becomes r Text.malformed q ⌝ }
 {
@@ -228,8 +231,36 @@ fn onward(r: Reader, second: bool, word: u64) -> Reader
     }
 }
 
+// Past the name of its string and the blank after it, at the start of a row.
+pub fn in_row(r: Reader, second: bool) -> Reader
+    requires { ⌜ Sound r ⌝ }
+    ensures { λ q. ⌜ Becomes r (Text.inRow second) q ⌝ }
+{
+    Reader {
+        place: PAST_NAME,
+        second,
+        word: 0,
+        a: r.a,
+        b: r.b,
+    }
+}
+
+// Without the floats of B.
+pub fn without_second(r: Reader) -> Reader
+    requires { ⌜ Sound r ⌝ }
+    ensures { λ q. ⌜ Becomes r Text.withoutSecond q ⌝ }
+{
+    Reader {
+        place: r.place,
+        second: r.second,
+        word: r.word,
+        a: r.a,
+        b: 0,
+    }
+}
+
 // A digit's value as a number of 64 bits.
-fn wide(x: u8) -> u64
+pub fn wide(x: u8) -> u64
     ensures { λ r. ⌜ r ≡ x ⌝ }
 {
     x as u64
@@ -286,7 +317,7 @@ fn take_last_digit(r: Reader, byte: u8, a: &mut [f64], b: &mut [f64]) -> Reader
 }
 
 // One byte, by the part that stands at its place.
-fn step(r: Reader, byte: u8, a: &mut [f64], b: &mut [f64]) -> Reader
+pub fn step(r: Reader, byte: u8, a: &mut [f64], b: &mut [f64]) -> Reader
     requires { ⌜ Sound r × (length (now a) ≡ floatsKept) × (length (now b) ≡ floatsKept) ⌝ }
     ensures { λ q. ⌜ Sound q × (heldState q (now (a .exit)) (now (b .exit))
         ≡ stepWith Kept.keep (heldState r (now (a .entry)) (now (b .entry))) byte) ⌝ }

@@ -25,7 +25,7 @@ use textform::inner::read;
 use textform::inner::read::Reader;
 
 // Counts, or the number of a refusal.
-pub(crate) enum Conclusion {
+pub enum Conclusion {
     Counts(Counts),
     Refused(u32),
 }
@@ -41,7 +41,7 @@ fn conclusion_of(counted: Counted) -> Conclusion
 }
 
 // The string that points make, without buoys: every number is 0, and those of the vertices are not looked at.
-fn build_plain(v: &[f64], out: &mut [f64]) -> Built
+pub fn build_plain(v: &[f64], out: &mut [f64]) -> Built
     requires { ⌜ (length (now v) ≤ floatsKept) × (length (now out) ≡ mostFloats) ⌝ }
     ensures { λ r. ⌜ builtAnswer r ≡ builtResult (plainBuild (now (v .entry))) ⌝ }
     ensures { λ _. ⌜ now (out .exit) ≡ leaves (plainFloats (plainBuild (now (v .entry)))) (now (out .entry)) ⌝ }
@@ -53,7 +53,7 @@ fn build_plain(v: &[f64], out: &mut [f64]) -> Built
 }
 
 // Two lists of points built, the first first, and the pairs of their legs counted with no margin. What is built is never refused there.
-fn count_built(a: &[f64], b: &[f64]) -> Conclusion
+pub fn count_built(a: &[f64], b: &[f64]) -> Conclusion
     requires { ⌜ (length (now a) ≤ floatsKept) × (length (now b) ≤ floatsKept) ⌝ }
     ensures { λ r. ⌜ conclusionAnswer r ≡ countBuilt (now (a .entry)) (now (b .entry)) ⌝ }
 {

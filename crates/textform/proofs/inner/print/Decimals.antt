@@ -16,7 +16,7 @@ last-glyph : (n : ℕ) → glyph (n % 10) ≡ 48 + n % 10
 last-glyph n = ap (λ (b : Bool). cond b (48 + n % 10) (87 + n % 10)) (lt-ltb (n % 10) 10 (omega arith))
 
 -- whether one digit is enough
-by-test : (most n : ℕ) {t : Bool} → ltb n 10 ≡ t
+pub by-test : (most n : ℕ) {t : Bool} → ltb n 10 ≡ t
     → pick t ((48 + n) ∷ []) (decimalWithin most (n / 10) ++ ((48 + n % 10) ∷ [])) ≡ decimalWithin (suc most) n
 unfolding decimalWithin
 by-test most n e = sym (ap (λ (t : Bool). pick t ((48 + n) ∷ []) (decimalWithin most (n / 10) ++ ((48 + n % 10) ∷ []))) e)

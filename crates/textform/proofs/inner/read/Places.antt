@@ -71,11 +71,12 @@ module _ (place : ℕ) where
   is-so P.LastDigit t = (in-row (and-l inRow oneFloatMore t), eqb→eq _ _ (and-r inRow oneFloatMore t))
   is-so P.Nothing t = tt
 
-abbrev allBelow : (ℕ → Bool) → ℕ → Bool
+-- a test of every number below n, and of one of them
+abbrev pub allBelow : (ℕ → Bool) → ℕ → Bool
 allBelow f zero = true
 allBelow f (suc n) = f n && allBelow f n
 
-at : (f : ℕ → Bool) (n : ℕ) → T (allBelow f n) → (i : ℕ) → i < n → T (f i)
+pub at : (f : ℕ → Bool) (n : ℕ) → T (allBelow f n) → (i : ℕ) → i < n → T (f i)
 at f zero t i h = absurd (not-suc-le-zero h)
 at f (suc n) t i h = elim (eq-or-lt-of-le (le-of-suc-le-suc h)) [
   | inl e ↦ rw e (and-l (f n) (allBelow f n) t)

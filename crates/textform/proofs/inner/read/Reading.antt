@@ -1,14 +1,11 @@
--- A whole float, one byte, and the bytes of a piece: the reader that the code makes holds what the machine over bytes says, and stays within its bounds.
--- Assumes nothing.
+-- A whole float, and one byte: the reader that the code makes holds what the machine over bytes says, and stays within its bounds. Assumes nothing.
 use mathlib.Core.Path.{_≡_, sym, ap, _∙_, subst}
 use mathlib.Core.Bool.{Bool, true, false}
 use mathlib.Core.List.{List}
 use mathlib.Core.Option.{none, some}
 use Prim.Native.Nat.{ℕ, _+_, _*_, _^_, _≤_, _<_}
 use native.Mathlib.Omega.{arith}
-use native.Mathlib.Numerals.{add-one}
-use lib.ListN.{length, getD, take, drop, drop-of-length-le}
-use lib.Seq.{drop-cons}
+use lib.ListN.{take}
 use lib.Ieee.{Float}
 use Rattle.arcstring_check.specs.Answer.{pick}
 use Rattle.textform.specs.declared.inner.read.Part.{Part}
@@ -16,7 +13,7 @@ use Rattle.textform.specs.declared.inner.read.Part.the-variants as P
 use Rattle.textform.specs.declared.inner.read.Digit.{Digit}
 use Rattle.textform.specs.declared.inner.read.Digit.the-variants as D
 use Rattle.textform.specs.declared.inner.read.Reader.{Reader}
-use Rattle.textform.specs.Text.{rowLast, malformedPlace, State, partAt, placeAfter, hexDigit, onward, withFloat, stepAt, stepWith, fedWith}
+use Rattle.textform.specs.Text.{rowLast, malformedPlace, State, partAt, placeAfter, hexDigit, onward, withFloat, stepAt, stepWith}
 use Rattle.textform.specs.Kept.{floatsKept, digitValue, keep, heldState, digitsBefore, Sound, Becomes}
 use Rattle.textform.proofs.inner.read.Digits.{digit-small}
 use Rattle.textform.proofs.inner.read.Places.{rule-at, after-within, digits-few, some-power, word-next, word-fits}
@@ -104,21 +101,3 @@ pub stepped : (byte : ℕ) (part : Part) (s held : State) (q : Reader) → partA
     → Sound q × (held ≡ stepWith keep s byte)
 unfolding stepWith
 stepped byte part s held q here h = (h .0, h .1 ∙ sym (ap (λ (p : Part). stepAt keep p s byte) here))
-
--- ---- the bytes of a piece
-
-module _ (add : Float → List Float → List Float) (s : State) (bytes : List ℕ) (i : ℕ) where
-  -- the next byte first
-  pub fed-next : i < length bytes → fedWith add (stepWith add s (getD bytes i 0)) (drop (i + 1) bytes) ≡ fedWith add s (drop i bytes)
-  unfolding fedWith
-  fed-next h = sym (rw (add-one, drop-cons bytes i 0))
-
-  -- no byte is left
-  pub fed-all : length bytes ≤ i → s ≡ fedWith add s (drop i bytes)
-  unfolding fedWith
-  fed-all h = rw (drop-of-length-le bytes h)
-
--- a turn of the loop over the bytes
-pub fed-step : (s t whole : State) (bytes : List ℕ) (i : ℕ) → i < length bytes → t ≡ stepWith keep s (getD bytes i 0) → fedWith keep s (drop i bytes) ≡ whole
-    → fedWith keep t (drop (i + 1) bytes) ≡ whole
-fed-step s t whole bytes i l h e = ap (λ (x : State). fedWith keep x (drop (i + 1) bytes)) h ∙ fed-next keep s bytes i l ∙ e

@@ -11,10 +11,11 @@ use lib.ListN.{length, length-append}
 use lib.Ieee.{Float, binary64, ofBits}
 use borrow.Author.Tests.{eqb-true}
 use Rattle.arcstring_check.specs.Answer.{pick}
+use Rattle.textform.specs.Text.{inTurn}
 use Rattle.textform.specs.declared.inner.read.Part.{Part}
 use Rattle.textform.specs.declared.inner.read.Part.the-variants as P
-use Rattle.textform.specs.Text.{letterA, letterB, rowStart, rowLast, State, start, partAt, placeAfter, hexDigit, malformed, onward, ifDigit, append}
-use Rattle.textform.specs.Text.{withFloat, stepAt, stepWith, fedWith, reading, wellFormed}
+use Rattle.textform.specs.Text.{letterA, letterB, rowStart, rowLast, State, start, partAt, placeAfter, hexDigit, malformed, onward, inRow, ifDigit}
+use Rattle.textform.specs.Text.{append, withFloat, stepAt, stepWith, fedWith, reading, wellFormed}
 use Rattle.textform.proofs.inner.read.Places.{floatsBefore, Within, rule-at}
 
 -- the floats of the row's string, and of the other
@@ -27,7 +28,7 @@ ofOther s = pick (s .second) (s .a) (s .b)
 abbrev pub InTriples : State → Type 0
 InTriples s = s .place ≤ rowLast → (length (ofRow s) % 3 ≡ floatsBefore (s .place) % 3) × (length (ofOther s) % 3 ≡ 0)
 
-malformed-triples : (s : State) → InTriples (malformed s)
+pub malformed-triples : (s : State) → InTriples (malformed s)
 malformed-triples s h = absurd (omega arith)
 
 module _ (s : State) (triples : InTriples s) where
@@ -94,29 +95,43 @@ module _ (s : State) (triples : InTriples s) where
         by-digit (some d) = float-triples (ofBits binary64 (16 * s .word + d)) here
     part-triples P.Nothing here = malformed-triples s
 
-    step-triples : InTriples (stepWith append s byte)
+    pub step-triples : InTriples (stepWith append s byte)
     unfolding stepWith
     step-triples = part-triples (partAt (s .place)) refl
 
 fed-triples : (s : State) (bytes : List ℕ) → InTriples s → InTriples (fedWith append s bytes)
-unfolding fedWith
+unfolding inTurn
 fed-triples s [] h = h
 fed-triples s (byte ∷ bytes) h = fed-triples (stepWith append s byte) bytes (step-triples s h byte)
 
-start-triples : InTriples start
+pub start-triples : InTriples start
 unfolding floatsBefore
 start-triples m = (refl, refl)
 
--- both lists of well-formed input
-pub whole-triples : (bytes : List ℕ) → wellFormed (reading bytes) ≡ true → (length (reading bytes .a) % 3 ≡ 0) × (length (reading bytes .b) % 3 ≡ 0)
-unfolding reading wellFormed floatsBefore
-whole-triples bytes h =
-    let s = reading bytes in
-    let p : s .place ≡ rowStart = eqb-true (s .place) rowStart h in
-    let t = fed-triples start bytes start-triples (omega arith) in
+-- whole triples
+abbrev pub Whole : List Float → Type 0
+Whole v = length v % 3 ≡ 0
+
+-- both lists, where a row starts
+pub whole-at-start : (s : State) → InTriples s → s .place ≡ rowStart → Whole (s .a) × Whole (s .b)
+unfolding floatsBefore
+whole-at-start s triples p =
+    let t = triples (omega arith) in
     either (s .second) (t .0 ∙ ap (λ (p : ℕ). floatsBefore p % 3) p) (t .1)
   where
-    either : (t : Bool) → length (pick t (reading bytes .b) (reading bytes .a)) % 3 ≡ 0 → length (pick t (reading bytes .a) (reading bytes .b)) % 3 ≡ 0
-        → (length (reading bytes .a) % 3 ≡ 0) × (length (reading bytes .b) % 3 ≡ 0)
+    either : (t : Bool) → Whole (pick t (s .b) (s .a)) → Whole (pick t (s .a) (s .b)) → Whole (s .a) × Whole (s .b)
     either true h k = (k, h)
     either false h k = (h, k)
+
+-- and past its name, if they were whole
+pub triples-in-row : (second : Bool) (s : State) → Whole (s .a) → Whole (s .b) → InTriples (inRow second s)
+unfolding floatsBefore
+triples-in-row true s h k m = (k, h)
+triples-in-row false s h k m = (h, k)
+
+-- both lists of well-formed input
+pub whole-triples : (bytes : List ℕ) → wellFormed (reading bytes) ≡ true → Whole (reading bytes .a) × Whole (reading bytes .b)
+unfolding reading wellFormed
+whole-triples bytes h =
+    let s = reading bytes in
+    whole-at-start s (fed-triples start bytes start-triples) (eqb-true (s .place) rowStart h)

@@ -3,9 +3,9 @@ use mathlib.Core.Path.{_≡_, refl, sym, _∙_}
 use Prim.Native.Nat.{_≤_, _-_}
 use native.Mathlib.Omega.{arith}
 use lib.ListN.{length, drop}
-use Rattle.textform.specs.Text.{fedWith}
+use Rattle.textform.specs.Text.{stepWith, fedWith}
 use Rattle.textform.specs.Kept.{floatsKept, keep, heldState, Sound}
-use Rattle.textform.proofs.inner.read.Reading.{fed-step, fed-all}
+use Rattle.textform.proofs.Turns.{fed-next, fed-all}
 use Rattle.textform.proofs.inner.read.feed.Statement.{statement}
 use Rattle.textform.proofs.inner.read.feed.Tie as tie
 
@@ -43,7 +43,7 @@ loop-again c =
       q .ensures .0,
       q .kept .1 .1 .0 ∙ n .2,
       q .kept .1 .1 .1 .0 ∙ n .3,
-      fed-step _ _ _ _ (loop .i) (test .loop-test .taken) (q .ensures .1) (n .4),
+      fed-next (stepWith keep) _ _ (loop .i) _ _ (test .loop-test .taken) (q .ensures .1) (n .4),
     )
 
 same-length : tie.Need-same-length Inv-loop μ-loop
@@ -55,7 +55,7 @@ same-length-2 c = let l = c .before in l .loop .inv .3 ∙ sym (l .before .befor
 returns : tie.Need-returns Inv-loop μ-loop
 returns c =
     let loop = c .before .loop in
-    (loop .inv .1, fed-all keep _ _ (loop .i) (c .loop-test .left) ∙ loop .inv .4)
+    (loop .inv .1, fed-all (stepWith keep) _ _ (loop .i) (c .loop-test .left) ∙ loop .inv .4)
 
 pub feed-spec : {M : Type 1} → statement M
 feed-spec =

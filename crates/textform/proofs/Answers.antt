@@ -1,5 +1,5 @@
--- What a read answered, a signed number whose bits the code tests, and what it put into the buffer: nothing at the end, and from 1 to 4,096 bytes where more
--- came. Assumes nothing.
+-- What a read answered, for programs that read their input piece by piece: a signed number whose bits the code tests, and what it put into the buffer, nothing
+-- at the end, and from 1 to 4,096 bytes where more came. Assumes nothing.
 use mathlib.Core.Path.{_≡_, refl, sym, ap, _∙_}
 use mathlib.Core.Bool.{false, true≢false}
 use mathlib.Core.List.{List, []}
@@ -13,14 +13,12 @@ use mir.Syntax.{w64}
 use mir.Val.{SFits, toZ, ofZ}
 use mir.ValLaws.{toZ-ofZ}
 use Rattle.io.specs.Counts.{clamped}
-use Rattle.textform.specs.Text.{State, fedWith}
-use Rattle.textform.specs.Kept.{keep}
-use Rattle.textform_count.specs.Pieces.{mostRead, OneRead}
+use Rattle.textform.specs.Pieces.{mostRead, OneRead}
 
--- what is fed is what was read: n bytes of a buffer that is as long as before
-pub fed-as-read : (got : ℤ) (s held : State) (n old : ℕ) (bytes : List ℕ) → held ≡ fedWith keep s (take n bytes) → n ≡ clamped got (length bytes)
-    → length bytes ≡ old → held ≡ fedWith keep s (take (clamped got old) bytes)
-fed-as-read got s held n old bytes h c l = h ∙ ap (λ (k : ℕ). fedWith keep s (take k bytes)) (c ∙ ap (clamped got) l)
+-- what is fed, to whatever state, is what was read: n bytes of a buffer that is as long as before
+pub fed-as-read : {S : Type 0} (feed : S → List ℕ → S) (got : ℤ) (s held : S) (n old : ℕ) (bytes : List ℕ) → held ≡ feed s (take n bytes)
+    → n ≡ clamped got (length bytes) → length bytes ≡ old → held ≡ feed s (take (clamped got old) bytes)
+fed-as-read feed got s held n old bytes h c l = h ∙ ap (λ (k : ℕ). feed s (take k bytes)) (c ∙ ap (clamped got) l)
 
 -- an answer above 0
 some-bytes : (got : ℤ) (most : ℕ) (bytes : List ℕ) → (got ≡ pos 0 → ⊥) → ltZ got (pos 0) ≡ false → most ≡ mostRead → length bytes ≡ mostRead

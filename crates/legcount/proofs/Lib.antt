@@ -1,2 +1,0 @@
--- The laws of a read's answer, for the functions' proofs.
-mod Answers

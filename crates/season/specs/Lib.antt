@@ -1,0 +1,2 @@
+-- What the season report has read and what it prints, by cases.
+pub mod Input

@@ -1,0 +1,2 @@
+-- The laws of lines: what stands in the list once every part is written.
+mod Lines
