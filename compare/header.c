@@ -324,10 +324,149 @@ static void changes(void)
     HOLDS(arcstring_split(xm, 6, buoys, 2, 0, NULL, 0, NULL, 0, NULL, 0, NULL, 0, NULL, 0, NULL, 0, &n) == 0 && n == 0);
 }
 
+static int on_leg(const double leg[6], double x, double y_, double z)
+{
+    return arcstring_mark_on_leg(leg, x, y_, z, &yes) == 0 && yes == 1;
+}
+
+/* the inherited test looks for the leg's end between its start and the mark; this one for the mark between the leg's ends */
+static void marks_on_legs(void)
+{
+    const double tilted[6] = {0.6, 0, 0.8, 0, 0.28, 0.96}, back[6] = {0, 1, 0, 1, 0, 0}, none[6] = {1, 0, 0, 1, 0, 0}, nan_end[6] = {1, 0, 0, 0, NAN, 0};
+    const double shorter[6] = {1, 0, 0, 1, 1e-8, 0}, longer[6] = {1, 0, 0, 1, 3e-8, 0}, wide[6] = {1, 0, 0, -0.8, 0.6, 0};
+    const double tenth_long[6] = {1, 0, 0, 1, 0.1, 0};
+    const double opposite[6] = {1, 0, 0, -0.99999999, 1e-4, 0}, nearly[6] = {1, 0, 0, -0.9999995, 1e-3, 0};
+    const double tenth = sqrt(0.1), three = 3 * tenth; /* the middle of the wide leg, of 143 degrees */
+    HOLDS(on_leg(tilted, 0.3, 0.14, 0.88) && !on_leg(tilted, 0.14, 0.3, 0.88) && !on_leg(tilted, 0.3, 0.88, 0.14) && !on_leg(tilted, 0.88, 0.14, 0.3));
+    HOLDS(on_leg(xyz, R, R, 0) && on_leg(back, R, R, 0) && on_leg(xyz, 0.5, 0.5, 0)); /* between the ends, of any length */
+    HOLDS(arcstring_xyzs_coplanar(1, 0, 0, R, R, 0, 0, 1, 0, &yes) == 0 && yes == 0);
+    HOLDS(!on_leg(xm, 0, 1, 0) && !on_leg(xm, R, -R, 0)); /* past the end, before the start */
+    HOLDS(arcstring_xyzs_coplanar(1, 0, 0, 0, 1, 0, 0.5, 0.5, 0, &yes) == 0 && yes == 1);
+    HOLDS(on_leg(xyz, 1, 0, 0) && on_leg(xyz, 0, 1, 0) && on_leg(xyz, 1, -2e-11, 0) && !on_leg(xyz, 1, -4e-11, 0)); /* at an end, or just past it */
+    HOLDS(on_leg(xyz, R, R, 1e-8) && !on_leg(xyz, R, R, 3e-8) && !on_leg(xyz, 0, 0, 1)); /* off the plane */
+    HOLDS(on_leg(longer, 1, 1.5e-8, 0) && !on_leg(shorter, 1, 5e-9, 0) && on_leg(shorter, 1, 0, 0) && on_leg(shorter, 1, 1e-8, 0));
+    HOLDS(on_leg(none, 1, 0, 0) && !on_leg(none, 0, 1, 0) && !on_leg(none, 1, 1e-10, 0)); /* a leg of no length holds its ends alone */
+    HOLDS(on_leg(nearly, 0, 1, 0) && !on_leg(opposite, 0, 1, 0) && on_leg(opposite, 1, 0, 0) && on_leg(opposite, -0.99999999, 1e-4, 0));
+    HOLDS(on_leg(wide, tenth, three, 0) && !on_leg(wide, -tenth, -three, 0)); /* the far side of a leg over 120 degrees */
+    HOLDS(on_leg(wide, 0.96, 0.28, 0) && !on_leg(wide, 0.96, -0.28, 0)); /* over 90 degrees from its end, and on it */
+    HOLDS(on_leg(tenth_long, 1, 0.05, 1e-8) && !on_leg(tenth_long, 1, 0.05, 1e-7)); /* off the plane by a distance, whatever the leg's length */
+    HOLDS(on_leg(wide, 0, 0, 0) && on_leg(wide, -0.0, -0.0, -0.0) && !on_leg(xm, 0, 0, 0)); /* the zero vector is on legs of 90 degrees or more */
+    HOLDS(arcstring_xyzs_coplanar(1, 0, 0, -0.8, 0.6, 0, -tenth, -three, 0, &yes) == 0 && yes == 1);
+    HOLDS(arcstring_mark_on_leg(nan_end, R, R, 0, &yes) == ARCSTRING_OUT_OF_RANGE && yes == 1);
+    HOLDS(arcstring_mark_on_leg(xyz, R, R, 2, &yes) == ARCSTRING_OUT_OF_RANGE && arcstring_mark_on_leg(xyz, NAN, R, 0, &yes) == ARCSTRING_OUT_OF_RANGE);
+    HOLDS(yes == 1);
+}
+
+static const double too_many[3 * 1025] = {0};
+static const uint32_t as_many[1025] = {0};
+
+static int on_string(double x, double y_, double z, const double *v, size_t v_len, uint8_t closed_)
+{
+    return arcstring_mark_on_string(x, y_, z, v, v_len, closed_, &yes) == 0 && yes == 1;
+}
+
+/* some leg holds it: the closing leg of a closed string, too, and none of an open string of one vertex */
+static void marks_on_strings(void)
+{
+    HOLDS(on_string(0.8, 0.6, 0, xyz, 9, 0) && on_string(0, 0.8, 0.6, xyz, 9, 0) && !on_string(0.8, 0, 0.6, xyz, 9, 0));
+    HOLDS(on_string(0.8, 0, 0.6, xyz, 9, 1) && on_string(0.8, 0, 0.6, xyz, 9, 255) && !on_string(0.8, 0, 0.6, xyz, 6, 1));
+    HOLDS(!on_string(0.8, -0.6, 0, xyz, 9, 1) && !on_string(-0.8, 0.6, 0, xyz, 9, 1) && on_string(0, 0, 1, xyz, 9, 0));
+    HOLDS(on_string(0, 1, 0, y, 3, 1) && !on_string(0, 1, 0, y, 3, 0) && !on_string(1, 0, 0, y, 3, 1));
+    HOLDS(arcstring_along(0.8, 0.6, 0, xyz, 9, xyz, 9, 0, &yes) == 0 && yes == 0);
+    HOLDS(arcstring_mark_on_string(NAN, 0, 0, NULL, 0, 0, &yes) == ARCSTRING_NOT_TRIPLES);
+    HOLDS(arcstring_mark_on_string(NAN, 0, 0, nan_point, 2, 0, &yes) == ARCSTRING_NOT_TRIPLES);
+    HOLDS(arcstring_mark_on_string(NAN, 0, 0, too_many, LENGTH(too_many), 0, &yes) == ARCSTRING_TOO_MANY_POINTS);
+    HOLDS(arcstring_mark_on_string(1, 0, 0, nan_point, 3, 0, &yes) == ARCSTRING_OUT_OF_RANGE);
+    HOLDS(arcstring_mark_on_string(1, 0, -1.5, xyz, 9, 0, &yes) == ARCSTRING_OUT_OF_RANGE && yes == 0);
+}
+
+/* what a cut of a string writes; every byte is set before it, and there are none between */
+struct cut { double out[30]; size_t counts[6], pieces; uint32_t numbers[10]; };
+
+/* with room for so many doubles, numbers and counts; the points' numbers are 21, 22 and so on */
+static uint32_t cut(const double *v, size_t v_len, uint8_t closed_, const double *p, size_t p_len, size_t doubles, size_t most, size_t pieces,
+                    struct cut *c)
+{
+    const uint32_t point_numbers[6] = {21, 22, 23, 24, 25, 26};
+    memset(c, 0xA5, sizeof *c);
+    return arcstring_cut_at_marks(v, v_len, buoys, v_len / 3, closed_, p, p_len, point_numbers, p_len / 3, c->out, doubles, c->numbers, most, c->counts,
+                                  pieces, &c->pieces);
+}
+
+/* the point stands in both pieces, as it was given and with its own number; a closed string is opened at vertex 0 */
+static void cuts(void)
+{
+    const double m[3] = {0.5, 0.5, 0}, closing[3] = {0.8, 0, 0.6}, two[6] = {0.6, 0.8, 0, 0.8, 0.6, 0}, m_twice[6] = {0.5, 0.5, 0, 0.5, 0.5, 0};
+    const double halves[12] = {1, 0, 0, 0.5, 0.5, 0, 0.5, 0.5, 0, 0, 1, 0}, opened[18] = {1, 0, 0, 0, 1, 0, 0, 0, 1, 0.8, 0, 0.6, 0.8, 0, 0.6, 1, 0, 0};
+    const double thirds[18] = {1, 0, 0, 0.8, 0.6, 0, 0.8, 0.6, 0, 0.6, 0.8, 0, 0.6, 0.8, 0, 0, 1, 0}, own[15] = {1, 0, 0, 0, 1, 0, 0, 1, 0, 0, 1, 0, 0, 0, 1};
+    const uint32_t of_halves[4] = {11, 21, 21, 12}, of_opened[6] = {11, 12, 13, 21, 21, 11};
+    const uint32_t of_thirds[6] = {11, 22, 22, 21, 21, 12}, of_own[5] = {11, 22, 22, 12, 13};
+    const double around[15] = {1, 0, 0, 0, 1, 0, 0, 0, 1, 1, 0, 0, 0, 1, 0}, several[9] = {0.5, 0.5, 0, 0, 0.8, 0.6, 0.5, 0.5, 0};
+    const double there_and_back[9] = {1, 0, 0, 0, 1, 0, 1, 0, 0}, nearer[6] = {0.5, 0.5, 0, 0.8, 0.6, 0}, quarter[3] = {0.75, 0.25, 0};
+    struct cut before, c;
+    memset(&before, 0xA5, sizeof before);
+    HOLDS(cut(xyz, 6, 0, m, 3, 12, 4, 2, &c) == 0 && c.pieces == 2 && c.counts[0] == 2 && c.counts[1] == 2 && c.counts[2] == before.counts[2]);
+    HOLDS(SAME(c.out, halves, 12) && SAME(c.out + 12, before.out + 12, 18) && SAME(c.numbers, of_halves, 4) && SAME(c.numbers + 4, before.numbers + 4, 6));
+    HOLDS(cut(xyz, 6, 0, m, 3, 11, 4, 2, &c) == ARCSTRING_NO_ROOM && SAME(&c, &before, 1));
+    HOLDS(cut(xyz, 6, 0, m, 3, 12, 3, 2, &c) == ARCSTRING_NO_ROOM && SAME(&c, &before, 1));
+    HOLDS(cut(xyz, 6, 0, m, 3, 12, 4, 1, &c) == ARCSTRING_NO_ROOM && SAME(&c, &before, 1));
+    HOLDS(cut(xyz, 9, 1, closing, 3, 18, 6, 2, &c) == 0 && c.pieces == 2 && c.counts[0] == 4 && c.counts[1] == 2);
+    HOLDS(SAME(c.out, opened, 18) && SAME(c.numbers, of_opened, 6));
+    HOLDS(cut(xyz, 9, 7, m, 3, 30, 10, 6, &c) == 0 && c.pieces == 2 && c.counts[0] == 2 && c.counts[1] == 4 && c.out[17] == 0 && c.numbers[5] == 11);
+    HOLDS(cut(xyz, 6, 0, two, 6, 18, 6, 3, &c) == 0 && c.pieces == 3 && c.counts[1] == 2 && SAME(c.out, thirds, 18) && SAME(c.numbers, of_thirds, 6));
+    HOLDS(cut(xyz, 6, 0, m_twice, 6, 12, 4, 2, &c) == 0 && c.pieces == 2 && SAME(c.out, halves, 12)); /* the second is at an end of a piece */
+    HOLDS(cut(xyz, 9, 0, xyz, 9, 15, 5, 2, &c) == 0 && c.pieces == 2 && c.counts[0] == 2 && c.counts[1] == 3); /* one list lent twice */
+    HOLDS(SAME(c.out, own, 15) && SAME(c.numbers, of_own, 5)); /* a vertex that is cut at stays beside the point */
+    HOLDS(cut(there_and_back, 9, 0, nearer, 6, 30, 10, 6, &c) == 0 && c.pieces == 3); /* the first piece, and its first leg */
+    HOLDS(c.counts[0] == 2 && c.counts[1] == 2 && c.counts[2] == 3 && c.numbers[1] == 22 && c.numbers[3] == 21);
+    HOLDS(cut(around, 15, 0, several, 9, 30, 10, 6, &c) == 0 && c.pieces == 3); /* the third is at an end of the first piece, and done with */
+    HOLDS(c.counts[0] == 2 && c.counts[1] == 3 && c.counts[2] == 4);
+    HOLDS(cut(xm, 6, 0, quarter, 3, 12, 4, 2, &c) == 0 && SAME(c.out, xm, 3) && SAME(c.out + 3, quarter, 3) && SAME(c.out + 9, xm + 3, 3)); /* as given */
+}
+
+/* uncut writes 0 into its place, and nothing else, whatever the room */
+static void not_cut(void)
+{
+    const double x[3] = {1, 0, 0}, z[3] = {0, 0, 1};
+    struct cut before, c;
+    memset(&before, 0xA5, sizeof before), before.pieces = 0;
+    HOLDS(cut(xyz, 6, 0, z, 3, 30, 10, 6, &c) == 0 && SAME(&c, &before, 1)); /* on no leg */
+    HOLDS(cut(xyz, 6, 0, x, 3, 30, 10, 6, &c) == 0 && SAME(&c, &before, 1) && cut(xyz, 6, 0, y, 3, 0, 0, 0, &c) == 0 && SAME(&c, &before, 1));
+    HOLDS(cut(xyz, 9, 1, x, 3, 30, 10, 6, &c) == 0 && SAME(&c, &before, 1)); /* at the vertex where a closed string is opened */
+    HOLDS(cut(x, 3, 1, xyz, 9, 30, 10, 6, &c) == 0 && SAME(&c, &before, 1) && cut(x, 3, 0, xyz, 9, 30, 10, 6, &c) == 0 && SAME(&c, &before, 1));
+    n = 5;
+    HOLDS(arcstring_cut_at_marks(xm, 6, buoys, 2, 1, NULL, 0, NULL, 0, NULL, 0, NULL, 0, NULL, 0, &n) == 0 && n == 0);
+}
+
+/* 1, 10, 3 and 4 of the string, then of the points, then 3 of a result, and 7 */
+static void cuts_refused(void)
+{
+    const double m[3] = {0.5, 0.5, 0}, *v = points;
+    size_t k;
+    n = 5;
+#define CUT(v, v_len, b_len, closed_, p, p_len, w_len) \
+    arcstring_cut_at_marks(v, v_len, as_many, b_len, closed_, p, p_len, as_many, w_len, NULL, 0, NULL, 0, NULL, 0, &n)
+    HOLDS(CUT(NULL, 0, 1, 0, nan_point, 2, 0) == ARCSTRING_NOT_TRIPLES && CUT(nan_point, 2, 1, 0, nan_point, 3, 0) == ARCSTRING_NOT_TRIPLES);
+    HOLDS(CUT(too_many, 3075, 1024, 0, nan_point, 2, 0) == ARCSTRING_BUOYS_NOT_AS_MANY && CUT(nan_point, 3, 2, 0, m, 2, 0) == ARCSTRING_BUOYS_NOT_AS_MANY);
+    HOLDS(CUT(too_many, 3075, 1025, 0, nan_point, 2, 0) == ARCSTRING_TOO_MANY_POINTS && CUT(nan_point, 3, 1, 0, m, 2, 5) == ARCSTRING_OUT_OF_RANGE);
+    HOLDS(CUT(xyz, 9, 3, 0, nan_point, 2, 1) == ARCSTRING_NOT_TRIPLES && CUT(xyz, 9, 3, 0, nan_point, 3, 0) == ARCSTRING_BUOYS_NOT_AS_MANY);
+    HOLDS(CUT(xyz, 9, 3, 0, too_many, 3075, 1024) == ARCSTRING_BUOYS_NOT_AS_MANY && CUT(xyz, 9, 3, 0, too_many, 3075, 1025) == ARCSTRING_TOO_MANY_POINTS);
+    HOLDS(CUT(xyz, 9, 3, 0, nan_point, 3, 1) == ARCSTRING_OUT_OF_RANGE && CUT(xyz, 9, 3, 0, m, 3, 1) == ARCSTRING_NO_ROOM);
+    for (k = 0; k < ARCSTRING_MOST_POINTS; k++) memcpy(points + 3 * k, xyz + 3 * (k % 2), 3 * sizeof *points);
+    HOLDS(CUT(v, 3072, 1024, 0, m, 3, 1) == ARCSTRING_TOO_MANY_POINTS && CUT(v, 3069, 1023, 0, m, 3, 1) == ARCSTRING_TOO_MANY_POINTS);
+    HOLDS(CUT(v, 3066, 1022, 1, m, 3, 1) == ARCSTRING_TOO_MANY_POINTS && CUT(v, 3063, 1021, 1, m, 3, 1) == ARCSTRING_NO_ROOM);
+    HOLDS(CUT(v, 3066, 1022, 0, m, 3, 1) == ARCSTRING_NO_ROOM && n == 5);
+    HOLDS(CUT(v, 3072, 1024, 1, xyz + 6, 3, 1) == 0 && n == 0); /* 1,025 points when it is opened, and uncut */
+#undef CUT
+    HOLDS(arcstring_cut_at_marks(v, 3066, as_many, 1022, 0, m, 3, seven, 1, out, 3072, numbers, 1024, counts_of, 2, &n) == 0 && n == 2);
+    HOLDS(counts_of[0] == 2 && counts_of[1] == 1022 && numbers[1] == 7 && numbers[2] == 7 && SAME(out + 9, v + 3, 3063));
+}
+
 int main(void)
 {
     lend();
     words(), single_points(), building(), walks(), pairs(), listings(), with_itself(), margins(), near_lists(), measures(), simplified(), changes();
+    marks_on_legs(), marks_on_strings(), cuts(), not_cut(), cuts_refused();
     free(out), free(points), free(numbers), free(counts_of), free(marks), free(flags);
     printf("%d facts of the header, %d broken\n", facts, broken);
     return broken != 0;

@@ -13,7 +13,7 @@
 #define FILL 0xA5
 #define MOST 1024
 
-static double a[3 * MOST], b[3 * MOST], cuts[3], out[3 * MOST], points[3 * MOST * MOST];
+static double a[3 * MOST], b[3 * MOST], cuts[3], leg[6], out[3 * MOST], points[3 * MOST * MOST];
 static uint32_t buoys[MOST], out_buoys[MOST];
 static uint8_t marks[MOST * MOST], flags[MOST], flag, other;
 static size_t n, kept, lengths[MOST], length;
@@ -80,6 +80,13 @@ static void split(void)
     refusal = arcstring_split(a, 3 * (n / 4), buoys, n / 4, 0, cuts, 3, buoys, 1, out, 3 * MOST, out_buoys, MOST, lengths, MOST, flags, MOST,
                               &length);
 }
+static void mark_on_leg(void) { refusal = arcstring_mark_on_leg(leg, a[3], a[4], a[5], &flag); }
+static void mark_on_string(void) { refusal = arcstring_mark_on_string(-a[0], -a[1], -a[2], a, 3 * n, 1, &flag); }
+static void cut_at_marks(void) /* at every vertex of its first half but the first */
+{
+    refusal = arcstring_cut_at_marks(a, 3 * (n / 2), buoys, n / 2, 1, a, 3 * (n / 4 - 1), buoys, n / 4 - 1, out, 3 * MOST, out_buoys, MOST, lengths, MOST,
+                                     &length);
+}
 static void equals(void) { refusal = arcstring_equals(a, 3 * n, a, 3 * n, 0, b, 3 * n, b, 3 * n, 0, &flag); }
 static void overlaps(void) { refusal = arcstring_overlaps(a, 3 * n, a, 3 * n, 0, b, 3 * n, b, 3 * n, 0, &flag); }
 
@@ -93,6 +100,7 @@ static const struct call { const char *name; void (*run)(void); } calls[] = {
     {"arcstring_turn_orientations", turns}, {"arcstring_midpoints", midpoints}, {"arcstring_simplify", simplify},
     {"arcstring_insert_vertices", insert}, {"arcstring_split_leg", split_leg}, {"arcstring_split", split},
     {"arcstring_equals", equals}, {"arcstring_overlaps", overlaps},
+    {"arcstring_mark_on_leg", mark_on_leg}, {"arcstring_mark_on_string", mark_on_string}, {"arcstring_cut_at_marks", cut_at_marks},
 };
 
 /* a chain of unit points in which every second one lies on the leg between its neighbours, or, one in four of these, beyond the next
@@ -143,6 +151,7 @@ static size_t most(const struct call *call)
         n = sizes[k];
         fill(a, 0.4), fill(b, 0.9);
         memcpy(cuts, a + 6, sizeof cuts); /* the end of leg 0 lies between its start and this point: along it, as the source has it */
+        memcpy(leg, a, sizeof cuts), memcpy(leg + 3, cuts, sizeof cuts); /* a leg that vertex 1 is on */
         least = used(&nothing);
         all = used(call);
         if (refusal != 0) printf("%s is refused by %u\n", call->name, (unsigned)refusal);

@@ -23,7 +23,7 @@
  * words; docs/TERMS.md says what to do about each.
  *
  * The checks run in the order of the numbers within a list, with 10 right after 1. A string's vertices come before
- * its near list, the first string before the second, then points to insert or to split at; then 9 of a margin; then
+ * its near list, the first string before the second, then points to insert or to cut at; then 9 of a margin; then
  * the 3 of a result, 5 and 6; 7 comes last, and looks at the numbers' buffer too. Past an answer a buffer keeps what it
  * held.
  *
@@ -38,14 +38,15 @@
  *     arcstring_insert_vertices                    MOST points and numbers
  *     arcstring_split_leg                          MOST points
  *     arcstring_split                              MOST points, numbers, counts and flags
+ *     arcstring_cut_at_marks                       MOST points and numbers, MOST / 2 counts
  *     arcstring_leg_crossings                      n points and marks
  *     arcstring_crossings                          counts[0] + counts[2] points and marks, by arcstring_count
  *     arcstring_crossings_with_self                the same, by arcstring_count(v, v_len, 0, v, v_len, 0, 0.0, counts)
  *
- * The last three are theorems: a listing keeps at most one point for each clean and each grazing pair, and the same
- * points at every margin, so that the counts at one margin tell enough for all; those at 0 ask for the least. Where
- * the buffers hold a point of every pair, a listing goes over the pairs once; else it counts them first and then
- * writes.
+ * The last four are theorems: of a cut at marks every piece has two vertices or more; a listing keeps at most one point
+ * for each clean and each grazing pair, and the same points at every margin, so that the counts at one margin tell
+ * enough for all; those at 0 ask for the least. Where the buffers hold a point of every pair, a listing goes over the
+ * pairs once; else it counts them first and then writes.
  *
  * WHAT A CALLER SEES TO. The library cannot check these; with one of them broken it promises nothing.
  *
@@ -69,6 +70,7 @@
  *      92,000  arcstring_crossings, arcstring_crossings_with_self, arcstring_leg_crossings, arcstring_count,
  *              arcstring_crosses, arcstring_crosses_self, arcstring_same_side
  *      66,500  arcstring_equals
+ *      37,500  arcstring_cut_at_marks
  *      32,500  arcstring_insert_vertices
  *      25,000  arcstring_split_leg
  *      18,000  arcstring_simplify
@@ -360,6 +362,41 @@ uint32_t arcstring_split(const double *v, size_t v_len, const uint32_t *buoys, s
                          const double *points, size_t points_len, const uint32_t *point_buoys, size_t point_buoys_len,
                          double *out, size_t out_len, uint32_t *out_buoys, size_t out_buoys_len,
                          size_t *counts, size_t counts_len, uint8_t *flags, size_t flags_len, size_t *pieces);
+
+/* ---- Marks, of a course: points that are placed in the middle of legs (the marks of listings above are bytes). On a leg
+ * as arcstring_along has it is the source's test, which looks for the leg's end between its start and the point; these
+ * calls look for the mark between start and end. */
+
+/* Whether a mark lies on a leg. It does where it equals start or end, as arcstring_xyz_eq has it, whatever the leg.
+ * Else, with n the cross product of start and end, it does exactly where n is not shorter than 2e-8, start . end is above
+ * -1 + 2e-8, the size of mark . n divided by the length of n is below 2e-8, mark . start and mark . end are each at least
+ * start . end, and mark . (start + end) is not negative. So, of unit vectors: within 2e-8 rad, 13 cm on the Earth, of
+ * the leg's great circle, and between its ends. A leg below those 13 cm, and one that is short of half a circle by some
+ * 1.3 km or less, hold no other marks than those that equal an end. Near the ends of legs below some 100 m rounding
+ * decides (docs/ACCURACY.md). A leg and its reverse hold the same marks. Refuses by 4 of the leg, then of the mark. */
+uint32_t arcstring_mark_on_leg(const double leg[6], double x, double y, double z, uint8_t *yes);
+
+/* Whether some leg of a string holds a mark, as arcstring_mark_on_leg has it: no near list is asked for. A string that
+ * is walked backwards or restarted holds the same marks. Refuses by 1, 3 and 4 of the string, then by 4 of the mark. */
+uint32_t arcstring_mark_on_string(double x, double y, double z, const double *v, size_t v_len, uint8_t closed,
+                                  uint8_t *yes);
+
+/* A string cut at marks. A closed one is opened at vertex 0, which then stands at both ends: it is the one piece that
+ * there is at first. Each mark in turn: of the first piece that holds it, at the first leg that does, the mark becomes
+ * the last vertex of one piece and the first of the next, as given, not normalised, and with its own number. A mark
+ * that equals the first or the last vertex of that piece cuts nothing, and so does a mark that no leg holds; one that
+ * equals an inner vertex cuts, and that vertex stays too.
+ *
+ * So the pieces, walked one after another, show every old vertex in its old sequence, bit for bit and with its number;
+ * between two pieces stands a mark, once in each. Every piece is open, has two vertices or more, and its near list is
+ * its vertices. They stand one after another in `out`, and their numbers in `out_buoys`; counts[k] is how many vertices
+ * piece k has. `pieces` is how many there are, one more than the marks that cut, or 0 for uncut, which writes nothing.
+ * Refuses by 1, 10, 3 and 4 of the string, then of the marks (there may be none), by 3 where after a cut all pieces
+ * together have more than 1,024 vertices, and by 7 where one of the three buffers is too short. */
+uint32_t arcstring_cut_at_marks(const double *v, size_t v_len, const uint32_t *buoys, size_t buoys_len, uint8_t closed,
+                                const double *points, size_t points_len, const uint32_t *point_buoys,
+                                size_t point_buoys_len, double *out, size_t out_len, uint32_t *out_buoys,
+                                size_t out_buoys_len, size_t *counts, size_t counts_len, size_t *pieces);
 
 /* ---- Two strings compared by simplified copies. */
 

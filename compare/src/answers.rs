@@ -1,4 +1,4 @@
-//! What an answer holds, and the answers of verdicts, of vertices and of a string.
+//! What an answer holds, and the answers of verdicts, of vertices, of a string and of one that is not cut.
 use crate::classes::Grazed;
 use crate::lists::flat;
 use crate::numbered::{self, Vertex};
@@ -38,6 +38,11 @@ pub fn verdict(yes: bool) -> Answer {
 
 pub fn vertices(points: &[Xyz]) -> Answer {
     Answer { floats: flat(points), numbers: vec![points.len() as u64], ..Answer::default() }
+}
+
+/// of a cut that cuts nothing
+pub fn uncut() -> Answer {
+    Answer { numbers: vec![0], ..Answer::default() }
 }
 
 pub fn string(v: &[Vertex]) -> Answer {

@@ -1,5 +1,6 @@
 //! Times calls of arcstring_c beside the published Rust: same inputs, one run, by turns, medians.
 use crate::bench_inputs::{LEGS, MARGINS, Room, SIZES, Times, Two, spiral, string};
+use crate::bench_marks;
 use crate::bench_strings as strings;
 use crate::calls::c;
 use crate::lists::{flat, triples};
@@ -198,6 +199,7 @@ pub fn run() {
     s2::table();
     table(&CALLS);
     table(&OTHER_STRINGS);
+    bench_marks::table();
     let inputs = roots::inputs();
     let [processor, ours] = by_turns(16, [&mut || roots::all(&inputs, f64::sqrt), &mut || roots::all(&inputs, roots::sqrt)]);
     println!("\nsquare root: the processor's {:.1} ns, ratio {:.1}", processor / inputs.len() as f64, ours / processor);

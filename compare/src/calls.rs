@@ -69,6 +69,13 @@ pub mod c {
         pub fn arcstring_overlaps(a: List, an: usize, near: List, near_n: usize, ac: u8, b: List, bn: usize, b_near: List, b_near_n: usize, bc: u8, yes: *mut u8) -> u32;
         pub fn arcstring_within(a: List, an: usize, b: List, bn: usize, near: List, near_n: usize, bc: u8, yes: *mut u8) -> u32;
         pub fn arcstring_contains(a: List, an: usize, near: List, near_n: usize, ac: u8, b: List, bn: usize, yes: *mut u8) -> u32;
+        pub fn arcstring_mark_on_leg(leg: List, x: f64, y: f64, z: f64, yes: *mut u8) -> u32;
+        pub fn arcstring_mark_on_string(x: f64, y: f64, z: f64, v: List, n: usize, closed: u8, yes: *mut u8) -> u32;
+        pub fn arcstring_cut_at_marks(
+            v: List, n: usize, buoys: Buoys, buoys_n: usize, closed: u8,
+            points: List, points_n: usize, point_buoys: Buoys, point_buoys_n: usize,
+            out: *mut f64, room: usize, out_buoys: *mut u32, buoys_room: usize, counts: *mut usize, counts_room: usize, pieces: *mut usize,
+        ) -> u32;
     }
 }
 
@@ -134,9 +141,11 @@ pub fn answer(r: &Request) -> Left {
     let mut lent = Lent::of(r);
     let number = unsafe {
         match r.call {
-            Call::XyzEq | Call::XyzsCoplanar | Call::Point | Call::Pair => single(r, &mut lent),
+            Call::XyzEq | Call::XyzsCoplanar | Call::Point | Call::Pair | Call::MarkOnLeg => single(r, &mut lent),
             Call::LegCrossings | Call::Crossings | Call::CrossingsWithSelf | Call::Count | Call::CrossesSelf | Call::SameSide => listing(r, &mut lent),
-            Call::Along | Call::Eq | Call::Equals | Call::Crosses | Call::Overlaps | Call::Within | Call::Contains => relation(r, &mut lent),
+            Call::Along | Call::MarkOnString | Call::Eq | Call::Equals | Call::Crosses | Call::Overlaps | Call::Within | Call::Contains => {
+                relation(r, &mut lent)
+            }
             Call::Run | Call::TurnOrientations | Call::Midpoints | Call::SplitLeg => written(r, &mut lent),
             _ => string(r, &mut lent),
         }
@@ -145,13 +154,14 @@ pub fn answer(r: &Request) -> Left {
 }
 
 unsafe fn single(r: &Request, lent: &mut Lent) -> u32 {
-    let (a, out, yes) = (&r.lists[0], lent.floats.as_mut_ptr(), lent.bytes.as_mut_ptr());
+    let ([a, _, b, _], out, yes) = (&r.lists, lent.floats.as_mut_ptr(), lent.bytes.as_mut_ptr());
     unsafe {
         match r.call {
             Call::XyzEq => c::arcstring_xyz_eq(a[0], a[1], a[2], a[3], a[4], a[5], yes),
             Call::XyzsCoplanar => c::arcstring_xyzs_coplanar(a[0], a[1], a[2], a[3], a[4], a[5], a[6], a[7], a[8], yes),
             Call::Point => c::arcstring_point(a[0], a[1], a[2], out),
-            _ => c::arcstring_pair(a.as_ptr(), r.lists[2].as_ptr(), yes, yes.add(1), out),
+            Call::MarkOnLeg => c::arcstring_mark_on_leg(a.as_ptr(), b[0], b[1], b[2], yes),
+            _ => c::arcstring_pair(a.as_ptr(), b.as_ptr(), yes, yes.add(1), out),
         }
     }
 }
@@ -179,6 +189,7 @@ unsafe fn relation(r: &Request, lent: &mut Lent) -> u32 {
     let (near, near_n, b_near, b_near_n) = (a_near.as_ptr(), a_near.len(), b_near.as_ptr(), b_near.len());
     let of_two = match r.call {
         Call::Along => return unsafe { c::arcstring_along(a[0], a[1], a[2], bp, bn, b_near, b_near_n, bc, yes) },
+        Call::MarkOnString => return unsafe { c::arcstring_mark_on_string(a[0], a[1], a[2], bp, bn, bc, yes) },
         Call::Within => return unsafe { c::arcstring_within(ap, an, bp, bn, b_near, b_near_n, bc, yes) },
         Call::Contains => return unsafe { c::arcstring_contains(ap, an, near, near_n, ac, bp, bn, yes) },
         Call::Eq => c::arcstring_eq,
@@ -222,6 +233,9 @@ unsafe fn string(r: &Request, lent: &mut Lent) -> u32 {
             Call::Restart => c::arcstring_restart(v, n, u, un, ac, r.at[0], out, room.floats, out_u, room.buoys, count),
             Call::Simplify => c::arcstring_simplify(v, n, u, un, ac, out, room.floats, out_u, room.buoys, count),
             Call::InsertVertices => c::arcstring_insert_vertices(v, n, u, un, ac, p, pn, w, wn, out, room.floats, out_u, room.buoys, count),
+            Call::CutAtMarks => c::arcstring_cut_at_marks(
+                v, n, u, un, ac, p, pn, w, wn, out, room.floats, out_u, room.buoys, count.add(1), room.numbers, count,
+            ),
             _ => c::arcstring_split(
                 v, n, u, un, ac, p, pn, w, wn, out, room.floats, out_u, room.buoys, count.add(1), room.numbers, bytes, room.bytes, count,
             ),

@@ -1,10 +1,11 @@
 //! What each call is to answer: the refusals from `table`, the results from the published Rust, and from both what every place that
 //! was lent is to hold. The published listings say which points are kept; the classes are worked out in `classes`, the buoys that go with
-//! a string's vertices in `numbered`.
+//! a string's vertices in `numbered`. The calls on marks, which the published Rust does not have, are read in `expected_mark`.
 use crate::answers::{Answer, Expected, string, verdict, vertices};
 use crate::calls::{BLANK, BLANK_BUOY, BLANK_BYTE, BLANK_NUMBER, Left, bits};
 use crate::classes::{self, Leg, legs};
 use crate::expected_edit as edit;
+use crate::expected_mark as mark;
 use crate::lists::{flat, triples};
 use crate::numbered::{self, Vertex};
 use crate::random::Xyz;
@@ -19,6 +20,7 @@ pub fn result(r: &Request) -> Expected {
     match table::refusal(r) {
         0 => match r.call {
             Call::Simplify | Call::InsertVertices | Call::SplitLeg | Call::Split | Call::Equals | Call::Overlaps => edit::accepted(r),
+            Call::MarkOnLeg | Call::MarkOnString | Call::CutAtMarks => mark::accepted(r),
             _ => Ok(accepted(r)),
         },
         number => Err(number),

@@ -2,7 +2,7 @@
 //! panics as the refusals 5 and 6, and the 3 of a result, which the published Rust does not have: the points are given a few more at
 //! a time, and the first result over 1,024 points ends it, since no cut and no insertion makes a result shorter. The buoys come with the
 //! vertices of `numbered`, which must be the published ones.
-use crate::answers::{Answer, Expected, string, verdict};
+use crate::answers::{Answer, Expected, string, uncut, verdict};
 use crate::calls::bits;
 use crate::lists::{flat, triples};
 use crate::numbered::{self, Numbered, Vertex};
@@ -101,10 +101,6 @@ fn pieces<T>(points: &[Xyz], few: usize, split: impl Fn(&[Xyz]) -> Vec<T>, size:
     }
     let all = split(points);
     if over(&all) { Err(3) } else { Ok(all) }
-}
-
-fn uncut() -> Answer {
-    Answer { numbers: vec![0], ..Answer::default() }
 }
 
 fn split_leg(leg: &[f64], extra: &[f64]) -> Expected {

@@ -1,9 +1,14 @@
 //! Which branch of a call an answer took: the summary counts by these, and each is at most 48 bytes.
 use crate::answers::{Answer, Expected};
 use crate::calls::{BLANK, Left, bits};
+use crate::classes::legs;
 use crate::expected;
+use crate::expected_mark::{Place, place};
+use crate::lists::triples;
+use crate::random::Xyz;
 use crate::request::{Call, Places, Request};
 use crate::table;
+use sphersgeo::sphericalpoint::xyz_eq;
 
 pub fn kind(r: &Request, expected: &Expected, left: &Left) -> String {
     let name = r.call.name();
@@ -13,15 +18,21 @@ pub fn kind(r: &Request, expected: &Expected, left: &Left) -> String {
         9 => format!("{name}: refusal 9, {}", refused_margin(r.margin)),
         n if table::margin(r.margin) != 0 => format!("{name}: refusal {n} before 9"),
         3 if r.lists.iter().all(|l| l.len() <= 3072) => format!("{name}: refusal 3 of a result"),
-        7 if buoys_alone_are_short(r, expected) => format!("{name}: refusal 7 of the buoys alone"),
+        7 => format!("{name}: refusal 7{}", short(r, expected)),
         10 if r.buoys[0].len() == r.lists[0].len() / 3 => format!("{name}: refusal 10 of the points"),
         n => format!("{name}: refusal {n}"),
     }
 }
 
-/// whether every other buffer is long enough
-fn buoys_alone_are_short(r: &Request, expected: &Expected) -> bool {
-    expected.as_ref().is_ok_and(|answer| Places { buoys: 0, ..answer.needed(r.call) }.fit(r.room))
+/// which buffer alone is too short, the others being long enough: that of the buoys, and of a cut at marks either of the others
+fn short(r: &Request, expected: &Expected) -> &'static str {
+    let needed = expected.as_ref().map_or(Places::default(), |answer| answer.needed(r.call));
+    match r.call == Call::CutAtMarks {
+        _ if (Places { buoys: 0, ..needed }).fit(r.room) => " of the buoys alone",
+        true if (Places { floats: 0, ..needed }).fit(r.room) => " of the vertices alone",
+        true if (Places { numbers: 0, ..needed }).fit(r.room) => " of the counts alone",
+        _ => "",
+    }
 }
 
 /// whether the answer at margin 0 is longer than a buffer
@@ -74,6 +85,10 @@ fn branch(r: &Request, left: &Left) -> String {
         Call::InsertVertices => size(count, vertices, ": inserted", ": nothing inserted"),
         Call::SplitLeg => pieces(count).to_string(),
         Call::Split => split(left, count),
+        Call::MarkOnLeg => format!(": {}", mark_on_leg(&triples(&r.lists[0]), &triples(&r.lists[2])).name()),
+        Call::MarkOnString => mark_on_string(r).to_string(),
+        Call::CutAtMarks if count == 0 => uncut(r).to_string(),
+        Call::CutAtMarks => format!("{}{}{}", pieces(count), if closed { ", opened" } else { "" }, if total(left, count) == 1024 { ", full" } else { "" }),
         _ => (if left.bytes == [1] { ": yes" } else { ": no" }).to_string(),
     }
 }
@@ -123,8 +138,40 @@ fn pieces(count: usize) -> &'static str {
 }
 
 fn split(left: &Left, count: usize) -> String {
-    let flags = &left.bytes[..count];
-    let total: u64 = left.numbers[1..=count].iter().sum();
-    let closed = if flags.contains(&1) { ", some closed" } else { "" };
-    format!("{}{closed}{}", pieces(count), if total == 1024 { ", 1,024 points" } else { "" })
+    let closed = if left.bytes[..count].contains(&1) { ", some closed" } else { "" };
+    format!("{}{closed}{}", pieces(count), if total(left, count) == 1024 { ", 1,024 points" } else { "" })
+}
+
+/// how many points the pieces have together
+fn total(left: &Left, count: usize) -> u64 {
+    left.numbers[1..=count].iter().sum()
+}
+
+fn mark_on_leg(leg: &[Xyz], mark: &[Xyz]) -> Place {
+    place(&leg[0], &leg[1], &mark[0])
+}
+
+/// the first leg of a string that holds a mark
+fn mark_on_string(r: &Request) -> &'static str {
+    let (mark, closed) = (triples(&r.lists[0])[0], r.flags[1] != 0);
+    let legs = legs(&triples(&r.lists[2]), closed);
+    match legs.iter().position(|leg| place(&leg.0, &leg.1, &mark).holds()) {
+        None if legs.is_empty() => ": no, without a leg",
+        None => ": no",
+        Some(k) if closed && k + 1 == legs.len() => ": yes, the closing leg",
+        Some(0) => ": yes, leg 0",
+        Some(_) => ": yes, a later leg",
+    }
+}
+
+/// why no point cuts a string
+fn uncut(r: &Request) -> &'static str {
+    let (legs, points) = (legs(&triples(&r.lists[0]), r.flags[0] != 0), triples(&r.lists[2]));
+    match (legs.first(), legs.last()) {
+        _ if points.is_empty() => ": uncut, no points",
+        _ if legs.len() == 1024 => ": uncut, 1,025 points when opened",
+        (Some(first), Some(last)) if points.iter().any(|p| xyz_eq(p, &first.0) || xyz_eq(p, &last.1)) => ": uncut, points at its ends",
+        (Some(_), _) => ": uncut, points on no leg",
+        _ => ": uncut, without a leg",
+    }
 }

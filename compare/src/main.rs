@@ -1,9 +1,10 @@
-//! Compares the proved libraries with the published Rust and with the processor, bit for bit (any NaN with any NaN), and the vertices that
-//! they build with unit length.
+//! Compares the proved libraries with the published Rust and with the processor, bit for bit (any NaN with any NaN), the calls on marks
+//! with another reading of their request, and the vertices that are built with unit length.
 //! A line for each kind of case says how often it came; a difference prints its request and ends the run with 1.
 mod answers;
 mod bench;
 mod bench_inputs;
+mod bench_marks;
 mod bench_strings;
 mod buoys;
 mod calls;
@@ -12,12 +13,17 @@ mod edits;
 mod exact;
 mod expected;
 mod expected_edit;
+mod expected_mark;
 mod found;
 mod inputs;
 mod kinds;
 mod lists;
 mod margin;
 mod margins;
+mod mark_laws;
+mod mark_points;
+mod mark_strings;
+mod marks;
 mod narrow;
 mod numbered;
 mod plane;
@@ -45,7 +51,7 @@ use tally::Tally;
 type Work = fn(&mut Tally, u64);
 
 /// What can be compared, with the usual number of comparisons; the found and the small requests are as many as there are.
-const COMPARISONS: [(&str, u64, Work); 11] = [
+const COMPARISONS: [(&str, u64, Work); 12] = [
     ("found", 1, found::run),
     ("roots", 12_000_000, roots::run),
     ("vectors", 3_000_000, vectors::run),
@@ -56,6 +62,7 @@ const COMPARISONS: [(&str, u64, Work); 11] = [
     ("plane", 3_000_000, plane::run),
     ("edits", 1_000_000, edits::run),
     ("buoys", 3_000_000, buoys::run),
+    ("marks", 6_000_000, marks::run),
     ("unit", 40_000_000, unit::run),
 ];
 
@@ -98,12 +105,13 @@ fn requests(file: &str) -> bool {
 }
 
 /// what a sample is taken from
-const SAMPLED: [(&str, u64, Work); 6] = [
+const SAMPLED: [(&str, u64, Work); 7] = [
     ("found", 1, found::run),
     ("edits", 60_000, edits::run),
     ("buoys", 200_000, buoys::run),
     ("strings", 200_000, strings::run),
     ("margin", 60_000, margin::run),
+    ("marks", 200_000, marks::run),
     ("small", 1, small::run),
 ];
 

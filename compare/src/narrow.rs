@@ -24,7 +24,7 @@ const WEAVES: [&[f64]; 6] = [&[1.0, -1.0], &[1.0, 1.0, -1.0, -1.0], &[1.0, 1.0, 
 // ---- vertices
 
 /// a step of one or two floats in one coordinate
-fn ulps_off(i: &mut Inputs, mut p: Xyz) -> Xyz {
+pub fn ulps_off(i: &mut Inputs, mut p: Xyz) -> Xyz {
     let at = i.below(3) as usize;
     let step = i.points.random.of(&[f64::next_up, f64::next_down]);
     p[at] = if i.one_in(2) { step(p[at]) } else { step(step(p[at])) };

@@ -33,11 +33,14 @@ pub enum Call {
     Overlaps,
     Within,
     Contains,
+    MarkOnLeg,
+    MarkOnString,
+    CutAtMarks,
 }
 
 use Call::*;
 
-pub const CALLS: [(Call, &str); 28] = [
+pub const CALLS: [(Call, &str); 31] = [
     (XyzEq, "xyz_eq"),
     (XyzsCoplanar, "xyzs_coplanar"),
     (Point, "point"),
@@ -66,6 +69,9 @@ pub const CALLS: [(Call, &str); 28] = [
     (Overlaps, "overlaps"),
     (Within, "within"),
     (Contains, "contains"),
+    (MarkOnLeg, "mark_on_leg"),
+    (MarkOnString, "mark_on_string"),
+    (CutAtMarks, "cut_at_marks"),
 ];
 
 /// How many elements of each kind a call is lent: buoys are the numbers that vertices carry, numbers are counts and positions.
@@ -95,7 +101,7 @@ impl Call {
             Point => (3, 0, 0),
             Pair => (3, 2, 0),
             Build => (0, 1, 1),
-            BuildFlagged | WalkBack | Restart | TurnOrientations | Midpoints | Simplify | InsertVertices | SplitLeg | Split => (0, 0, 1),
+            BuildFlagged | WalkBack | Restart | TurnOrientations | Midpoints | Simplify | InsertVertices | SplitLeg | Split | CutAtMarks => (0, 0, 1),
             Run => (0, 0, 2),
             LegCrossings | Crossings | CrossingsWithSelf => (0, 0, 5),
             Count => (0, 0, 4),
@@ -106,11 +112,12 @@ impl Call {
 
     /// of these places those of the kinds of buffer that it is lent with a length
     pub fn buffers(self, places: Places) -> Places {
-        let (Places { floats, buoys, bytes, .. }, none) = (places, Places::default());
+        let (Places { floats, buoys, bytes, numbers }, none) = (places, Places::default());
         match self {
             TurnOrientations | Midpoints | SplitLeg => Places { floats, ..none },
             LegCrossings | Crossings | CrossingsWithSelf => Places { floats, bytes, ..none },
             Build | BuildFlagged | WalkBack | Restart | Simplify | InsertVertices => Places { floats, buoys, ..none },
+            CutAtMarks => Places { floats, buoys, numbers, ..none },
             Split => places,
             _ => none,
         }
@@ -125,15 +132,15 @@ impl Call {
     pub fn buoy_lists(self) -> usize {
         match self {
             Build | BuildFlagged | WalkBack | Restart | Simplify => 1,
-            InsertVertices | Split => 2,
+            InsertVertices | Split | CutAtMarks => 2,
             _ => 0,
         }
     }
 }
 
 /// A call, its flags, positions, margin and lists, and the lengths of its buffers. The lists are: the first string's vertices (or
-/// points, or a leg by itself), its near list; the second string's vertices (or extra points), its near list. The buoys are those of
-/// the first and of the third list. The margin is 0 for a call that takes none.
+/// points, or a leg by itself), its near list; the second string's vertices (or extra points, or the mark beside a leg), its near list.
+/// The buoys are those of the first and of the third list. The margin is 0 for a call that takes none.
 #[derive(Clone, Debug)]
 pub struct Request {
     pub call: Call,

@@ -42,7 +42,8 @@ impl Sample {
                 lines += 1;
             }
         }
-        println!("stored: {lines} requests of {} kinds, {} and {} bytes", self.chosen.len(), requests.len(), answers.len());
+        let kinds = self.chosen.values().filter(|chosen| !chosen.is_empty()).count();
+        println!("stored: {lines} requests of {kinds} kinds, {} and {} bytes", requests.len(), answers.len());
         std::fs::write(folder.join("stdin"), requests)?;
         std::fs::write(folder.join("stdout"), answers)
     }

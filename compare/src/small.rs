@@ -67,6 +67,7 @@ fn points(tally: &mut Tally) {
     }
     for three in lists(&grid(&[-1.0, -0.0, 0.0, 0.5, 1.0]), 2).iter().flat_map(|two| signs.iter().map(move |p| [&two[..], &p[..]].concat())) {
         send(tally, Request::new(Call::XyzsCoplanar, &[&three]));
+        send(tally, Request::new(Call::MarkOnLeg, &[&three[..6], &[], &three[6..]]));
     }
     for set in [signs, zeros] {
         let legs = lists(&set, 2);
@@ -133,7 +134,7 @@ fn lengths(tally: &mut Tally) {
             rooms_at_margins(tally, r);
         }
         for m in [0, 3, 4, 6, 9] {
-            for call in [Call::Crossings, Call::InsertVertices, Call::Split] {
+            for call in [Call::Crossings, Call::InsertVertices, Call::Split, Call::CutAtMarks] {
                 let r = Request::new(call, &[v, &[], &long[40 - m..]]).flags(1, 1);
                 buoys(tally, &r);
                 rooms_at_margins(tally, r);
@@ -159,11 +160,12 @@ fn two_strings(tally: &mut Tally) {
 /// a point, a leg or extra points, with a string
 fn with_string(tally: &mut Tally) {
     let strings = lists_up_to(&COURSE, 1, 3);
-    let extra = lists_up_to(&COURSE, 0, 2);
+    let (extra, marks) = (lists_up_to(&COURSE, 0, 2), lists_up_to(&COURSE, 0, 3));
     for v in &strings {
         for flag in [0, 1] {
             for p in grid(&[-1.0, -0.0, 0.5, 1.0]) {
                 send(tally, Request::new(Call::Along, &[&p, &[], v, &v[..3]]).flags(0, flag));
+                send(tally, Request::new(Call::MarkOnString, &[&p, &[], v]).flags(0, flag));
             }
             for leg in lists(&COURSE, 2) {
                 send_at_margins(tally, Request::new(Call::LegCrossings, &[&leg, &[], v]).flags(0, flag));
@@ -172,6 +174,9 @@ fn with_string(tally: &mut Tally) {
             for points in &extra {
                 send(tally, Request::new(Call::InsertVertices, &[v, &[], points]).flags(flag, 0));
                 send(tally, Request::new(Call::Split, &[v, &[], points]).flags(flag, 0));
+            }
+            for points in &marks {
+                send(tally, Request::new(Call::CutAtMarks, &[v, &[], points]).flags(flag, 0));
             }
         }
     }

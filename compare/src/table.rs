@@ -61,7 +61,7 @@ pub fn refusal(r: &Request) -> u32 {
     let ([a, a_near, b, b_near], [a_buoys, b_buoys]) = (&r.lists, &r.buoys);
     match r.call {
         Call::XyzEq | Call::XyzsCoplanar | Call::Point => single(a),
-        Call::Pair => in_turn(&[single(a), single(b)]),
+        Call::Pair | Call::MarkOnLeg => in_turn(&[single(a), single(b)]),
         Call::Build | Call::BuildFlagged => to_build(a, a_buoys),
         Call::WalkBack | Call::Restart | Call::Simplify => stored_with(a, a_buoys),
         Call::CrossesSelf | Call::TurnOrientations => stored(a),
@@ -72,7 +72,8 @@ pub fn refusal(r: &Request) -> u32 {
         Call::Crossings | Call::Count => in_turn(&[stored(a), stored(b), margin(r.margin)]),
         Call::Midpoints => to_halve(a, r.flags[0] != 0),
         Call::Along => in_turn(&[stored(b), stored(b_near), single(a)]),
-        Call::InsertVertices | Call::Split => in_turn(&[stored_with(a, a_buoys), extra_with(b, b_buoys)]),
+        Call::MarkOnString => in_turn(&[stored(b), single(a)]),
+        Call::InsertVertices | Call::Split | Call::CutAtMarks => in_turn(&[stored_with(a, a_buoys), extra_with(b, b_buoys)]),
         Call::SplitLeg => in_turn(&[single(a), extra(b)]),
         Call::Eq | Call::Equals | Call::Crosses | Call::Overlaps => in_turn(&[stored(a), stored(a_near), stored(b), stored(b_near)]),
         Call::Within => in_turn(&[stored(a), stored(b), stored(b_near)]),

@@ -17,12 +17,14 @@
 //     insert      vertices inserted
 //     split_leg   a leg split
 //     split       a string split
+//     mark        marks on legs and strings, and a string cut at marks (arcstring_mark, arcstring_mark_cut)
 //     version     which version of the header belongs to the library
 pub mod along;
 pub mod build;
 pub mod crossing;
 pub mod insert;
 pub mod listing;
+pub mod mark;
 pub mod measure;
 pub mod point;
 pub mod relation;

@@ -151,6 +151,15 @@ module _ {A B : Type 0} (f : A → B) where
   map-then (refused n) g h same = refl
   map-then (answered x) g h same = same x
 
+-- what answers was answered before: past a check that did not refuse, and by the step before the last
+pub unless-answered : {A : Type 0} (n : ℕ) (a : Answer A) (y : A) → unlessRefused n a ≡ answered y → a ≡ answered y
+unless-answered zero a y h = h
+unless-answered (suc n) a y h = absurd (let z : _≡_ {A = ℕ} 0 1 = cc in omega arith)
+
+pub answered-before : {A B : Type 0} (a : Answer A) (f : A → Answer B) (y : B) → andThen a f ≡ answered y → (x : A) × (a ≡ answered x) × (f x ≡ answered y)
+answered-before (refused n) f y h = absurd (let z : _≡_ {A = ℕ} 0 1 = cc in omega arith)
+answered-before (answered x) f y h = (x, refl, h)
+
 -- an answer is one value
 pub same-answer : {A : Type 0} (x y : A) → answered x ≡ answered y → x ≡ y
 same-answer x y h = cc

@@ -1,24 +1,22 @@
 -- The walk of one vertex over the legs: a leg that its point is not along, one that it is along, one vertex too many, and no leg left. Assumes nothing.
 use mathlib.Core.Path.{_≡_, refl, sym, ap, _∙_}
 use mathlib.Core.Bool.{Bool, true, false}
-use mathlib.Core.List.{List, _∷_, _++_, map}
+use mathlib.Core.List.{List, map}
 use Prim.Native.Nat.{ℕ, suc, _+_, _-_, _*_, _≤_, _<_}
 use native.Mathlib.Omega.{arith}
-use lib.ListN.{length, take, drop}
+use lib.ListN.{length, take}
 use lib.Ieee.{Float}
 use Rattle.sphericalpoint.specs.declared.SphericalPoint.{SphericalPoint}
 use Rattle.arcstring.specs.declared.inner.vertex.Vertex.{Vertex}
 use Rattle.arcstring_check.specs.Answer.{Answer, refused, answered, andThen, pick}
 use Rattle.arcstring.specs.Points.{placeOf}
-use Rattle.arcstring.specs.Splice.{splice}
 use Rattle.arcstring.specs.Leg.{legAt, legCount}
 use Rattle.arcstring_check.specs.Check.{mostPoints}
 use Rattle.arcstring_check.proofs.Answers.{then-answered, then-refused}
 use Rattle.arcstring_along.specs.OnString.{alongLeg}
 use Rattle.arcstring_insert.specs.Steps.{legFrom, limited}
 use Rattle.arcstring_insert.specs.Insert.{insertAt, insertWalk, insertPoint}
-use Rattle.arcstring_insert.proofs.Shifts.{floats}
-use Rattle.arcstring_insert.proofs.Inserted.{firstVertices, length-inserted, places-first, length-vertices, vertices-inserted}
+use Rattle.arcstring_insert.proofs.Inserted.{firstVertices, length-inserted, places-first, length-vertices}
 use Rattle.arcstring_insert.proofs.LegFrom.{leg-from-first}
 use Rattle.arcstring_insert.proofs.Steps.{over-limit, at-most-limit}
 
@@ -83,11 +81,10 @@ module _ (x : Vertex) (w : List Float) (bs : List ℕ) (m k legs i : ℕ) (whole
         sym (then-refused _ on 3 (over-limit (length more-vs) more-vs (omega (arith, length-more)))) ∙ next-by true e
 
     -- along it
-    pub walk-on : (w' : List Float) (bs' : List ℕ) → b ≡ true → m < mostPoints → length w ≡ 3 * mostPoints → length bs ≡ mostPoints
-        → w' ≡ splice w (3 * k) (floats (x .place) ++ take (3 * (m - k)) (drop (3 * k) w)) → bs' ≡ splice bs k (x .buoy ∷ take (m - k) (drop k bs))
+    pub walk-on : (w' : List Float) (bs' : List ℕ) → b ≡ true → m < mostPoints → firstVertices (m + 1) w' bs' ≡ more-vs
         → on (firstVertices (m + 1) w' bs') ≡ whole
-    walk-on w' bs' e some large large' written likewise =
-        ap on (vertices-inserted w w' bs bs' mostPoints m k x large large' (omega arith) some written likewise)
+    walk-on w' bs' e some put =
+        ap on put
         ∙ sym (then-answered _ on more-vs (at-most-limit (length more-vs) more-vs (omega (arith, length-more))))
         ∙ next-by true e
 

@@ -1,11 +1,9 @@
 // Points put in as vertices, each with its number, as the source's `insert_vertices` puts them in.
 ghost use mathlib.Core.Path.{_≡_};
-ghost use mathlib.Core.List.{_∷_};
-ghost use Prim.Native.Nat.{_+_, _-_, _*_, _≤_, _<_};
-ghost use lib.ListN.{length, take, drop};
+ghost use Prim.Native.Nat.{_*_, _≤_};
+ghost use lib.ListN.{length, take};
 ghost use Rattle.arcstring_check.specs.Answer.{leaves, andThen};
 ghost use Rattle.arcstring.specs.Points.{numbered, placeOf, points};
-ghost use Rattle.arcstring.specs.Splice.{splice};
 ghost use Rattle.arcstring_check.specs.Check.{mostPoints, intoRooms};
 ghost use Rattle.arcstring.specs.Written.{writtenAnswer, writtenResult, writtenFloats, withoutBuoys, writtenBuoys};
 ghost use Rattle.arcstring.specs.Work.{heldCount};
@@ -23,19 +21,6 @@ use arcstring_check::check::Refusal;
 use arcstring_check::check::Written;
 use arcstring_check::inner::checks;
 use sphericalpoint::SphericalPoint;
-
-// A number put in as the k-th of n; those from k on stand one place further.
-fn insert_buoy(buoys: &mut [u32], n: usize, k: usize, buoy: u32)
-    requires { ⌜ (k ≤ n) × (n < length (now buoys)) ⌝ }
-    ensures { λ _. ⌜ now (buoys .exit) ≡ splice (now (buoys .entry)) k (buoy ∷ take (n - k) (drop k (now (buoys .entry)))) ⌝ }
-{
-    let mut i = n;
-    while i > k {
-        buoys[i] = buoys[i - 1];
-        i -= 1;
-    }
-    buoys[k] = buoy;
-}
 
 // One point put in before the start of each leg of the first n vertices of `work` that it is along, its number likewise in
 // `buoys`. After an insertion the walk goes on two places further.
@@ -59,8 +44,7 @@ fn insert_point(work: &mut [f64], buoys: &mut [u32], n: usize, closed: bool, x: 
         if m == MOST_POINTS {
             return Written::Refused(Refusal::TooManyPoints);
         }
-        inner::insert_vertex(work, m, k, x.place);
-        insert_buoy(buoys, m, k, x.buoy);
+        inner::insert_numbered(work, buoys, m, k, x);
         m += 1;
         k += 2;
     }

@@ -7,6 +7,7 @@ use lib.Dec.{ltb}
 use Rattle.sphericalpoint.specs.declared.SphericalPoint.{SphericalPoint}
 use Rattle.arcstring_check.specs.Answer.{Answer, answered, pick}
 use Rattle.arcstring.specs.Points.{StringOf}
+use Rattle.arcstring.specs.Written.{pointsIn}
 use Rattle.arcstring.specs.Leg.{legCount}
 use Rattle.arcstring_along.specs.OnString.{alongLeg}
 use Rattle.arcstring_insert.specs.Steps.{forEach, forPositions, legFrom, limited}
@@ -20,11 +21,6 @@ firstPoints x xs i = take (i + 1) xs ++ (x ∷ [])
 -- and the second: the point, and the vertices from the leg's end on; the closing leg's end is vertex 0 alone
 unfoldable pub secondPoints : {A : Type 0} → A → List A → ℕ → List A
 secondPoints x xs i = x ∷ pick (ltb (i + 1) (length xs)) (drop (i + 1) xs) (take 1 xs)
-
--- all pieces together, as stored
-abbrev pub pointsIn : {A : Type 0} → List (StringOf A) → ℕ
-pointsIn [] = 0
-pointsIn (s ∷ ss) = length (s .vertices) + pointsIn ss
 
 abbrev pub noString : {A : Type 0} → StringOf A
 noString = record { vertices = []; near = []; closed = false }

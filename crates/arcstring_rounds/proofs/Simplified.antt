@@ -9,7 +9,7 @@ use lib.ListN.{length, take, drop, length-append, length-drop, length-map}
 use lib.Seq.{length-take-le, take-take, take-append-le}
 use lib.Dec.{ltb}
 use borrow.Author.Tests.{ltb-true}
-use Rattle.arcstring_check.proofs.Answers.{same-answer}
+use Rattle.arcstring_check.proofs.Answers.{answered-before, same-answer}
 use Rattle.sphericalpoint.specs.declared.SphericalPoint.{SphericalPoint}
 use Rattle.arcstring_check.specs.Answer.{Answer, refused, answered, andThen, pick}
 use Rattle.arcstring_rounds.specs.Rounds.{unnecessary, unnecessaryFrom, unnecessaryPositions, removeAt, removeAll, isSimple, rounds, simplified}
@@ -18,11 +18,6 @@ use Rattle.arcstring_rounds.specs.Kept.{keptVertices}
 use Rattle.arcstring_rounds.proofs.inner.Removals.{removed-in-turn}
 use Rattle.arcstring_rounds.proofs.inner.OneRound.{round-open}
 use Rattle.arcstring_rounds.proofs.inner.Rounds.{few-simple, not-simple, shorter, rounds-simple, rounds-step, simple-stays}
-
--- what was answered before a last step that answers
-before-last : {A B : Type 0} (a : Answer A) (f : A → Answer B) (y : B) → andThen a f ≡ answered y → (x : A) × (a ≡ answered x) × (f x ≡ answered y)
-before-last (refused n) f y h = absurd (let z : _≡_ {A = ℕ} 0 1 = cc in omega arith)
-before-last (answered x) f y h = (x, refl, h)
 
 module _ {A : Type 0} (pt : A → SphericalPoint) where
   -- ---- what every removal keeps
@@ -41,7 +36,7 @@ module _ {A : Type 0} (pt : A → SphericalPoint) where
         → removeAll (pick b (k ∷ us) us) ps ≡ answered qs → P ps → P qs
     unfolding removeAll
     run-by true k us ps qs low rest h p =
-        let mid = before-last (removeAll us ps) (removeAt k) qs h in
+        let mid = answered-before (removeAll us ps) (removeAt k) qs h in
         one-keeps k (mid .0) qs low (mid .2) (rest (mid .0) (mid .1) p)
     run-by false k us ps qs low rest h p = rest qs h p
 
@@ -61,7 +56,7 @@ module _ {A : Type 0} (pt : A → SphericalPoint) where
     round-keeps closed ps qs h p =
         let run = unnecessaryFrom (map pt ps) 1 (length (map pt ps) - 1) in
         let again = pick closed (unnecessaryFrom (map pt ps) 1 1) [] in
-        let mid = before-last (removeAll again ps) (removeAll run) qs (sym (removed-in-turn run again ps) ∙ h) in
+        let mid = answered-before (removeAll again ps) (removeAll run) qs (sym (removed-in-turn run again ps) ∙ h) in
         run-keeps (map pt ps) 1 (length (map pt ps) - 1) (mid .0) qs (omega arith) (mid .2) (again-keeps closed ps (mid .0) (mid .1) p)
 
     rounds-by : (b : Bool) (more : ℕ) (closed : Bool) (ps qs : List A) → isSimple (map pt ps) closed ≡ b
@@ -69,7 +64,8 @@ module _ {A : Type 0} (pt : A → SphericalPoint) where
         → rounds pt (suc more) closed ps ≡ answered qs → P ps → P qs
     rounds-by true more closed ps qs s rest h p = subst P (same-answer ps qs (sym (rounds-simple pt (suc more) closed ps s) ∙ h)) p
     rounds-by false more closed ps qs s rest h p =
-        let mid = before-last (removeAll (unnecessaryPositions (map pt ps) closed) ps) (rounds pt more closed) qs (sym (rounds-step pt more closed ps s) ∙ h) in
+        let mid = answered-before (removeAll (unnecessaryPositions (map pt ps) closed) ps) (rounds pt more closed) qs
+        (sym (rounds-step pt more closed ps s) ∙ h) in
         rest (mid .0) (mid .2) (round-keeps closed ps (mid .0) (mid .1) p)
 
     rounds-keep : (more : ℕ) (closed : Bool) (ps qs : List A) → rounds pt more closed ps ≡ answered qs → P ps → P qs
@@ -98,7 +94,8 @@ module _ {A : Type 0} (pt : A → SphericalPoint) where
   simple-by true more closed ps qs s rest h =
       sym (ap (λ (rs : List A). isSimple (map pt rs) closed) (same-answer ps qs (sym (rounds-simple pt (suc more) closed ps s) ∙ h))) ∙ s
   simple-by false more closed ps qs s rest h =
-      let mid = before-last (removeAll (unnecessaryPositions (map pt ps) closed) ps) (rounds pt more closed) qs (sym (rounds-step pt more closed ps s) ∙ h) in
+      let mid = answered-before (removeAll (unnecessaryPositions (map pt ps) closed) ps) (rounds pt more closed) qs
+      (sym (rounds-step pt more closed ps s) ∙ h) in
       rest (mid .0) (shorter (map pt ps) closed ps s (mid .0) (mid .1)) (mid .2)
 
   rounds-end-simple : (more : ℕ) (closed : Bool) (ps qs : List A) → length ps ≤ more

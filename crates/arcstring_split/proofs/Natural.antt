@@ -17,16 +17,13 @@ use Rattle.arcstring.proofs.Numbered.{map-take, map-drop}
 use Rattle.arcstring_along.specs.OnString.{alongLeg}
 use Rattle.arcstring_insert.specs.Steps.{forPositions, legFrom, limited}
 use Rattle.arcstring_insert.proofs.Natural.{map-limited, map-picked, map-positions, map-each, made}
-use Rattle.arcstring_split_leg.specs.SplitLeg.{unlessUncut}
-use Rattle.arcstring_piece.specs.Cut.{firstPoints, secondPoints, pointsIn, noString, cutAt, cutAtLeg, cutPlace, cutString, cutAll}
+use Rattle.arcstring_split_leg.specs.SplitLeg.{unlessUncut, eachPiece}
+use Rattle.arcstring_split_leg.proofs.Uncut.{each-unless-uncut, mapString, same-count}
+use Rattle.arcstring.specs.Written.{pointsIn}
+use Rattle.arcstring_piece.specs.Cut.{firstPoints, secondPoints, noString, cutAt, cutAtLeg, cutPlace, cutString, cutAll}
 use Rattle.arcstring_split.specs.Split.{piecesInto, splitInto}
-use Rattle.arcstring_split.specs.BuoyLaws.{eachPiece}
 
 -- ---- cuts: what a list makes is made likewise
-
--- of each vertex; near list and flag stay
-abbrev pub mapString : {A B : Type 0} → (A → B) → StringOf A → StringOf B
-mapString f s = record { vertices = map f (s .vertices); near = s .near; closed = s .closed }
 
 module _ {A B : Type 0} (f : A → B) where
   pub map-first : (x : A) (xs : List A) (i : ℕ) → map f (firstPoints x xs i) ≡ firstPoints (f x) (map f xs) i
@@ -44,10 +41,6 @@ module _ {A B : Type 0} (f : A → B) where
       (second-by (ltb (i + 1) (length xs)) xs i
       ∙ ap (λ (n : ℕ). pick (ltb (i + 1) n) (drop (i + 1) (map f xs)) (take 1 (map f xs))) (sym (length-map xs f)))
 
-  same-count : (ss : List (StringOf A)) → pointsIn (map (mapString f) ss) ≡ pointsIn ss
-  same-count [] = refl
-  same-count (s ∷ ss) = ap₂ _+_ (length-map (s .vertices) f) (same-count ss)
-
   module _ (pt : B → SphericalPoint) (built : List A → StringOf A) (built' : List B → StringOf B)
       (alike : (xs : List A) → mapString f (built xs) ≡ built' (map f xs)) where
     map-cut-at : (x : A) (xs : List A) (k i : ℕ) (ss : List (StringOf A))
@@ -63,7 +56,7 @@ module _ {A B : Type 0} (f : A → B) where
         ≡ take k (map (mapString f) ss)
         ++ (built' (firstPoints (f x) (map f xs) i) ∷ built' (secondPoints (f x) (map f xs) i) ∷ drop (k + 1) (map (mapString f) ss)) =
         map-append (mapString f) (take k ss) _ ∙ (λ j. map-take (mapString f) k ss j ++ (one j ∷ two j ∷ map-drop (mapString f) (k + 1) ss j)) in
-        map-limited (map (mapString f)) (pointsIn cut) cut ∙ ap₂ limited (sym (same-count cut) ∙ ap pointsIn e) e
+        map-limited (map (mapString f)) (pointsIn cut) cut ∙ ap₂ limited (sym (same-count f cut) ∙ ap pointsIn e) e
 
     map-at-leg : (x : A) (xs : List A) (k i : ℕ) (ss : List (StringOf A))
         → mapAnswer (map (mapString f)) (cutAtLeg (made f pt) built x xs k i ss) ≡ cutAtLeg pt built' (f x) (map f xs) k i (map (mapString f) ss)
@@ -101,11 +94,6 @@ module _ {A B : Type 0} (f : A → B) where
 
   -- ---- the checks of a split, and what it answers
 
-  map-unless-uncut : (ss : List (StringOf A)) → eachPiece (mapString f) (unlessUncut ss) ≡ unlessUncut (map (mapString f) ss)
-  map-unless-uncut [] = refl
-  map-unless-uncut (s ∷ []) = refl
-  map-unless-uncut (s ∷ t ∷ ss) = refl
-
   module _ (room buoyRoom countsRoom flagsRoom : ℕ) where
     -- the check of m points in n pieces
     abbrev rooms : ℕ → ℕ → ℕ
@@ -117,13 +105,13 @@ module _ {A B : Type 0} (f : A → B) where
     map-pieces-into none = refl
     map-pieces-into (some ss) =
         map-unless (eachPiece (mapString f)) (rooms (pointsIn ss) (length ss)) (answered (some ss))
-        ∙ ap₂ (λ (m n : ℕ). unlessRefused (rooms m n) (answered (some (map (mapString f) ss)))) (sym (same-count ss)) (sym (length-map ss (mapString f)))
+        ∙ ap₂ (λ (m n : ℕ). unlessRefused (rooms m n) (answered (some (map (mapString f) ss)))) (sym (same-count f ss)) (sym (length-map ss (mapString f)))
 
     map-pieces : (a : Answer (List (StringOf A)))
         → mapAnswer (eachPiece (mapString f)) (andThen a (λ (ss : List (StringOf A)). piecesInto room buoyRoom countsRoom flagsRoom (unlessUncut ss)))
         ≡ andThen (mapAnswer (map (mapString f)) a) (λ (ss : List (StringOf B)). piecesInto room buoyRoom countsRoom flagsRoom (unlessUncut ss))
     map-pieces (refused n) = refl
-    map-pieces (answered ss) = map-pieces-into (unlessUncut ss) ∙ ap (piecesInto room buoyRoom countsRoom flagsRoom) (map-unless-uncut ss)
+    map-pieces (answered ss) = map-pieces-into (unlessUncut ss) ∙ ap (piecesInto room buoyRoom countsRoom flagsRoom) (each-unless-uncut (mapString f) ss)
 
     pub map-split-into : (v : List Float) (bs : List ℕ) (extra : List Float) (es : List ℕ) (a : Answer (List (StringOf A)))
         → mapAnswer (eachPiece (mapString f)) (splitInto v bs extra es room buoyRoom countsRoom flagsRoom a)

@@ -18,7 +18,8 @@ use Rattle.arcstring_insert.proofs.InsertsWithout.{points-places}
 use Rattle.arcstring_split_leg.specs.SplitLeg.{unlessUncut}
 use Rattle.arcstring_piece.specs.Cut.{firstPoints, secondPoints, cutAll}
 use Rattle.arcstring_split.specs.Split.{piecesInto, splitInto, numberedCopy, splitString}
-use Rattle.arcstring_split.specs.BuoyLaws.{SplitWithout, CutBuoys, eachPiece}
+use Rattle.arcstring_split_leg.specs.SplitLeg.{eachPiece}
+use Rattle.arcstring_split.specs.BuoyLaws.{SplitWithout, CutBuoys}
 use Rattle.arcstring_split.proofs.Natural.{map-cut-all, map-split-into, map-first, map-second}
 
 -- what is answered to an accepted string and accepted points is all that matters

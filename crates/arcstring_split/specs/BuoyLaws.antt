@@ -2,8 +2,7 @@
 -- `proofs/SplitsWithout.antt`.
 use mathlib.Core.Path.{_≡_}
 use mathlib.Core.Bool.{Bool}
-use mathlib.Core.List.{List, [], map}
-use mathlib.Core.Option.{Option, none, some}
+use mathlib.Core.List.{List, []}
 use Prim.Native.Nat.{ℕ}
 use lib.ListN.{length, take}
 use lib.Ieee.{Float}
@@ -12,15 +11,11 @@ use Rattle.arcstring.specs.declared.inner.vertex.Vertex.{Vertex}
 use Rattle.arcstring.specs.Points.{buoysOf, placesOf, itself, unnumbered, copied, points}
 use Rattle.arcstring_build.specs.Build.{builtString, builtNumbered}
 use Rattle.arcstring_along.specs.OnString.{stored}
+use Rattle.arcstring_split_leg.specs.SplitLeg.{eachPiece}
 use Rattle.arcstring_piece.specs.Cut.{firstPoints, secondPoints, cutAll}
 use Rattle.arcstring_split.specs.Split.{splitInto, splitString}
 
 -- ---- the numbers taken off: the call over points, after the same checks
-
--- of each piece; uncut stays
-abbrev pub eachPiece : {A B : Type 0} → (A → B) → Option (List A) → Option (List B)
-eachPiece f none = none
-eachPiece f (some l) = some (map f l)
 
 -- the pieces' vertices, near lists and flags
 abbrev pub SplitWithout : Type 0

@@ -1,32 +1,20 @@
 -- Splitting a string, as `split_arcstring_at_points` does it. Definitions only.
 use mathlib.Core.Bool.{Bool}
-use mathlib.Core.List.{List, [], _∷_, _++_, map}
+use mathlib.Core.List.{List, map}
 use mathlib.Core.Option.{Option, none, some}
-use Prim.Native.Nat.{ℕ, _+_}
+use Prim.Native.Nat.{ℕ}
 use lib.ListN.{length}
 use lib.Ieee.{Float}
 use Rattle.arcstring_check.specs.Answer.{Answer, answered, unlessRefused, firstOf, andThen, flagNumber}
 use Rattle.arcstring.specs.declared.inner.vertex.Vertex.{Vertex}
-use Rattle.arcstring.specs.Points.{numbered, placeOf, placesOf, buoysOf, StringOf, points, flat}
+use Rattle.arcstring.specs.Points.{numbered, placeOf, StringOf, points}
+use Rattle.arcstring.specs.Written.{pointsIn}
 use Rattle.arcstring_check.specs.Check.{stringCheck, pointsCheck, roomCheck, roomsCheck}
 use Rattle.arcstring_build.specs.Build.{builtNumbered}
 use Rattle.arcstring_split_leg.specs.SplitLeg.{unlessUncut}
-use Rattle.arcstring_piece.specs.Cut.{pointsIn, cutAll}
+use Rattle.arcstring_piece.specs.Cut.{cutAll}
 
--- ---- what is written of pieces: vertices, numbers, counts, flags
-
-abbrev pub pieceFloats : List (StringOf Vertex) → List Float
-pieceFloats [] = []
-pieceFloats (s ∷ ss) = flat (placesOf (s .vertices)) ++ pieceFloats ss
-
-abbrev pub pieceBuoys : List (StringOf Vertex) → List ℕ
-pieceBuoys [] = []
-pieceBuoys (s ∷ ss) = buoysOf (s .vertices) ++ pieceBuoys ss
-
-abbrev pub pieceCounts : {A : Type 0} → List (StringOf A) → List ℕ
-pieceCounts {A} ss = map (λ (s : StringOf A). length (s .vertices)) ss
-
--- 1 for a closed piece, 0 for an open one
+-- what is written of pieces beside vertices, numbers and counts: 1 for a closed piece, 0 for an open one
 abbrev pub pieceFlags : {A : Type 0} → List (StringOf A) → List ℕ
 pieceFlags {A} ss = map (λ (s : StringOf A). flagNumber (s .closed)) ss
 

@@ -10,7 +10,8 @@ ghost use Rattle.arcstring_split_leg.specs.SplitLeg.{splitAnswer, pieceCount, o
 ghost use Rattle.arcstring_split_leg.specs.Legs.{cutCount};
 ghost use Rattle.arcstring_piece.specs.Pieces.{Stands};
 ghost use Rattle.arcstring_split.specs.Handed.{flagsOf, handedOver};
-ghost use Rattle.arcstring_split.specs.Split.{pieceFloats, pieceBuoys, pieceCounts, pieceFlags, splitString};
+ghost use Rattle.arcstring.specs.Written.{pieceFloats, pieceBuoys, pieceCounts};
+ghost use Rattle.arcstring_split.specs.Split.{pieceFlags, splitString};
 use arcstring::inner::vertex;
 use arcstring_check::check::Checked;
 use arcstring_check::check::MOST_FLOATS;

@@ -1,6 +1,6 @@
--- Splitting one leg, as `split_arc_at_points` does it, and *uncut*, the answer of both splits where nothing is cut. Definitions only.
+-- Splitting one leg, as `split_arc_at_points` does it, and *uncut*, the answer where nothing is cut. Definitions only.
 use mathlib.Core.Bool.{Bool, not, _&&_, _||_}
-use mathlib.Core.List.{List, [], _∷_, _++_}
+use mathlib.Core.List.{List, [], _∷_, _++_, map}
 use mathlib.Core.Option.{Option, none, some}
 use Prim.Native.Nat.{ℕ, _+_, _*_}
 use lib.ListN.{length, getD, take, drop}
@@ -40,6 +40,11 @@ abbrev pub unlessUncut : {A : Type 0} → List A → Option (List A)
 unlessUncut [] = none
 unlessUncut (a ∷ []) = none
 unlessUncut (a ∷ b ∷ l) = some (a ∷ b ∷ l)
+
+-- of each piece; uncut stays
+abbrev pub eachPiece : {A B : Type 0} → (A → B) → Option (List A) → Option (List B)
+eachPiece f none = none
+eachPiece f (some l) = some (map f l)
 
 -- how many pieces
 abbrev pub pieceCount : {A : Type 0} → Option (List A) → Option ℕ

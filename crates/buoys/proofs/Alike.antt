@@ -7,6 +7,7 @@ use Rattle.arcstring_build.proofs.BuildsWithout.{into-alike, build-without, fla
 use Rattle.arcstring_simplify.proofs.SimplifiesWithout.{simplify-without}
 use Rattle.arcstring_insert.proofs.InsertsWithout.{insert-alike}
 use Rattle.arcstring_split.proofs.SplitsWithout.{split-alike}
+use Rattle.arcstring_mark_cut.proofs.CutsWithout.{cut-alike}
 use Rattle.buoys.specs.GeometryAlone.{GeometryAlone}
 
 pub geometry-alone : GeometryAlone
@@ -24,4 +25,5 @@ geometry-alone =
           simplify-without v bs closed room buoyRoom ∙ lent-alike v bs cs room buoyRoom _ same ∙ sym (simplify-without v cs closed room buoyRoom);
       inserting = insert-alike;
       splitting = split-alike;
+      cutting-at-marks = cut-alike;
     }

@@ -14,7 +14,8 @@ use Rattle.arcstring.specs.Written.{withoutBuoys}
 use Rattle.arcstring_simplify.specs.Simplify.{simplify}
 use Rattle.arcstring_insert.specs.Insert.{insertVertices}
 use Rattle.arcstring_split.specs.Split.{splitString}
-use Rattle.arcstring_split.specs.BuoyLaws.{eachPiece}
+use Rattle.arcstring_split_leg.specs.SplitLeg.{eachPiece}
+use Rattle.arcstring_mark_cut.specs.CutAtMarks.{cutAtMarks}
 
 -- The numbers may be anything: only how many there are is looked at. `unnumbered` keeps vertices, near list and flag; walked back, restarted, simplified and
 -- with vertices inserted, a string keeps its near list and its flag, which are not handed in.
@@ -36,3 +37,7 @@ pub record GeometryAlone : Type 0 where
       → length bs ≡ length cs → length es ≡ length fs
       → mapAnswer (eachPiece unnumbered) (splitString v bs closed extra es room buoyRoom countsRoom flagsRoom)
       ≡ mapAnswer (eachPiece unnumbered) (splitString v cs closed extra fs room buoyRoom countsRoom flagsRoom)
+  pub cutting-at-marks : (v : List Float) (bs cs : List ℕ) (closed : Bool) (extra : List Float) (es fs : List ℕ) (room buoyRoom countsRoom : ℕ)
+      → length bs ≡ length cs → length es ≡ length fs
+      → mapAnswer (eachPiece unnumbered) (cutAtMarks v bs closed extra es room buoyRoom countsRoom)
+      ≡ mapAnswer (eachPiece unnumbered) (cutAtMarks v cs closed extra fs room buoyRoom countsRoom)

@@ -1,13 +1,14 @@
 // Replays stored requests: reads them from standard input, a line each, runs the call of arcstring_c that each names, and prints a
 // line with what the call returned and what it left in every place that it was lent. The gate compares what is printed with the
-// stored answers, which are the published Rust's (docs/DIFFERENCES.md says how both lists were made). The program ends with the
-// input, and at a request that is cut short, has a word that is no number, asks for an unknown call or passes a bound.
+// stored answers, which are the published Rust's, and of the calls on marks, which it does not have, an independent reading's of
+// their request (docs/DIFFERENCES.md says how both lists were made). The program ends with the input, and at a request that is cut
+// short, has a word that is no number, asks for an unknown call or passes a bound.
 //
 // A word is 16 upper-case hexadecimal digits. A request is a label of 48 bytes, then words, each with one byte after it (a blank, or the line feed): the
 // call's number; the two strings' flags; two positions; the lengths of the buffers of floats, of bytes, of numbers and of buoys; the margin's bits, which the
 // calls that take none leave; four lists of floats (the first string's vertices and near list, the second's) and two of buoys (the first string's, and those
 // of the extra points), each as its length, how many elements are given, and these: the list repeats them to its length. Points and legs by themselves stand
-// in the first list, extra points in the third.
+// in the first list, extra points and a mark beside a leg in the third.
 //
 // An answer is the label, then words with a blank before each: the number returned, every float, every buoy, every byte and every number
 // that was lent, single places before a buffer.

@@ -124,7 +124,7 @@ pub(crate) fn read_request() -> Asked {
     let Word::Value(margin) = read_word() else {
         return Asked::None;
     };
-    if call > 27 {
+    if call > 30 {
         return Asked::None;
     }
     Asked::Request(Request {

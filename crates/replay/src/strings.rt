@@ -186,3 +186,52 @@ pub(crate) fn split(q: Request, a: &[f64], a_buoys: &[u32], b: &[f64], b_buoys: 
         &mut numbers[..number_room],
     );
 }
+
+fn cut_into(
+    q: Request,
+    a: &[f64],
+    a_buoys: &[u32],
+    b: &[f64],
+    b_buoys: &[u32],
+    out: &mut [f64],
+    out_buoys: &mut [u32],
+    counts: &mut [usize],
+) {
+    let mut pieces = NUMBER;
+    let n = arcstring_c::mark::arcstring_cut_at_marks(
+        a,
+        a_buoys,
+        q.first_flag,
+        b,
+        b_buoys,
+        out,
+        out_buoys,
+        counts,
+        &mut pieces,
+    );
+    print::print_returned(n);
+    print::print_floats(out);
+    print::print_buoys(out_buoys);
+    print::print_number(pieces);
+    print::print_numbers(counts);
+}
+
+// A string cut at marks: lent floats, buoys and numbers.
+pub(crate) fn cut_at_marks(q: Request, a: &[f64], a_buoys: &[u32], b: &[f64], b_buoys: &[u32]) {
+    let mut floats = [FLOAT; 256];
+    let mut buoys = [BUOY; 256];
+    let mut numbers = [NUMBER; 256];
+    let float_room = q.floats as usize;
+    let buoy_room = q.buoys as usize;
+    let number_room = q.numbers as usize;
+    cut_into(
+        q,
+        a,
+        a_buoys,
+        b,
+        b_buoys,
+        &mut floats[..float_room],
+        &mut buoys[..buoy_room],
+        &mut numbers[..number_room],
+    );
+}

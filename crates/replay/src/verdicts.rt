@@ -1,6 +1,7 @@
 // The calls that answer yes or no. What is printed: the number returned, and the place of the verdict.
 use crate::lent::BYTE;
 use crate::lent::at;
+use crate::lent::six;
 use crate::print;
 use crate::read::Request;
 
@@ -76,7 +77,27 @@ fn along(q: Request, a: &[f64], b: &[f64], b_near: &[f64]) {
     print_verdict(n, yes);
 }
 
-// The calls on points, and on points and a string.
+fn mark_on_leg(a: &[f64], b: &[f64]) {
+    let leg = six(a);
+    let mut yes = BYTE;
+    let n = arcstring_c::mark::arcstring_mark_on_leg(&leg, at(b, 0), at(b, 1), at(b, 2), &mut yes);
+    print_verdict(n, yes);
+}
+
+fn mark_on_string(q: Request, a: &[f64], b: &[f64]) {
+    let mut yes = BYTE;
+    let n = arcstring_c::mark::arcstring_mark_on_string(
+        at(a, 0),
+        at(a, 1),
+        at(a, 2),
+        b,
+        q.second_flag,
+        &mut yes,
+    );
+    print_verdict(n, yes);
+}
+
+// The calls on points, on a leg and a mark, and on points and a string.
 pub(crate) fn on_string(q: Request, a: &[f64], b: &[f64], b_near: &[f64]) {
     let call = q.call;
     match call {
@@ -84,6 +105,8 @@ pub(crate) fn on_string(q: Request, a: &[f64], b: &[f64], b_near: &[f64]) {
         1 => xyzs_coplanar(a),
         13 => crosses_self(q, a),
         14 => same_side(q, a, b),
+        28 => mark_on_leg(a, b),
+        29 => mark_on_string(q, a, b),
         _ => along(q, a, b, b_near),
     }
 }

@@ -20,10 +20,10 @@ use Rattle.arcstring.specs.Leg.{Leg, chain, legs}
 use Rattle.arcstring_tally.specs.Pairs.{pairsBetween}
 use Rattle.same_crossings.specs.Changes.{PointValue, pointValue}
 use Rattle.same_crossings.specs.BuiltChanges.{ClosesOnItself, BuildsInReverse, pairsOfStrings, BuiltReversed, StringsTrade}
-use Rattle.same_crossings.proofs.VectorValues.{eq-swap, point-same}
-use Rattle.same_crossings.proofs.TurnedLegs.{turned}
+use Rattle.sphericalpoint.proofs.VectorValues.{eq-swap}
+use Rattle.same_crossings.proofs.PointValues.{point-same}
 use Rattle.same_crossings.proofs.PairOrders.{same-order}
-use Rattle.same_crossings.proofs.LegLists.{legs-backwards, legs-restarted}
+use Rattle.same_crossings.proofs.LegLists.{turned, legs-backwards, legs-restarted}
 use Rattle.same_crossings.proofs.SamePairs.{SamePairs, AllAlike, no-legs, one-more, counts-same, legs-alike, legs-turned, strings-traded}
 
 -- ---- a list by its last element

@@ -1,6 +1,5 @@
 -- The legs of a string that is walked backwards are its legs turned round, those of an open one in reverse; the legs of a closed string that is begun at
--- another
--- vertex are its legs in another order. Assumes nothing.
+-- another vertex are its legs in another order. Assumes nothing.
 use mathlib.Core.Path.{_≡_, refl, sym, ap, _∙_}
 use mathlib.Core.Bool.{Bool, true, false, _&&_}
 use mathlib.Core.List.{List, [], _∷_, _++_, map, reverse, reverse-cons, reverse-append, append-assoc, append-nil, List·Permᴰ, List·Permᴰ·nil, List·Permᴰ·trans}
@@ -12,8 +11,10 @@ use Rattle.sphericalpoint.specs.declared.SphericalPoint.{SphericalPoint}
 use Rattle.arcstring_check.specs.Answer.{pick}
 use Rattle.arcstring_walk.specs.Walk.{restarted}
 use Rattle.arcstring.specs.Leg.{Leg, leg, chain, legs}
-use Rattle.same_crossings.proofs.TurnedLegs.{turned}
 use Rattle.same_crossings.proofs.PairOrders.{same-order}
+
+abbrev pub turned : Leg → Leg
+turned l = leg (l .to) (l .from)
 
 -- the points u, vs, w, ws: the legs up to w, then those from w on
 chain-split : (u : SphericalPoint) (vs : List SphericalPoint) (w : SphericalPoint) (ws : List SphericalPoint)

@@ -14,7 +14,7 @@ use Rattle.sphericalpoint.specs.declared.SphericalPoint.{SphericalPoint}
 use Rattle.square_root.specs.Sqrt.{sqrtOf}
 use Rattle.sphericalpoint.specs.Vector.{equalityTolerance, xyzDiv, xyzLength, normalized}
 use Rattle.sphericalpoint.specs.Point.{pickPoint, normalizedUnlessShort}
-use Rattle.same_crossings.proofs.VectorValues.{Like, like, like-value, like-same, like-refl, like-lt, Same, same-mul, same-sum}
+use Rattle.sphericalpoint.proofs.VectorValues.{Like, like, like-value, like-same, like-refl, like-lt, Same, same-mul, same-sum}
 
 -- ---- square roots
 

@@ -20,9 +20,11 @@ use Rattle.arcstring_pair.specs.Pair.{pairOf}
 use Rattle.arcstring_tally.specs.Pairs.{pairsBetween, pairsWithin, oneClean, oneEnd, oneGrazing, oneApart, total, countsOf, keptMarks, cleanPoints}
 use Rattle.same_crossings.specs.CountLaws.{pointOfClean}
 use Rattle.same_crossings.specs.Changes.{PointValue, pointValue}
-use Rattle.same_crossings.proofs.VectorValues.{like, Same, same-point}
+use Rattle.sphericalpoint.proofs.VectorValues.{like, Same}
+use Rattle.same_crossings.proofs.PointValues.{same-point}
 use Rattle.same_crossings.proofs.NormalValues.{same-normalized}
-use Rattle.same_crossings.proofs.TurnedLegs.{turned, PairValue, cleanAt, endClass, grazingClass, apartClass, pairValue, first-turned, second-turned}
+use Rattle.same_crossings.proofs.LegLists.{turned}
+use Rattle.same_crossings.proofs.TurnedLegs.{PairValue, cleanAt, endClass, grazingClass, apartClass, pairValue, first-turned, second-turned}
 use Rattle.same_crossings.proofs.TurnedLegs.{legs-traded, first-alike}
 use Rattle.same_crossings.proofs.PairOrders.{same-order, map-same, total-order, grid, grid-order, grid-turned, grid-traded, spaced, spaced-turned}
 use Rattle.same_crossings.proofs.PairOrders.{spaced-reversed}

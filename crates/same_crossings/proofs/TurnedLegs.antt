@@ -16,16 +16,15 @@ use Rattle.arcstring_check.specs.Answer.{pick}
 use Rattle.arcstring_pair.specs.declared.pair.Pair.{Pair}
 use Rattle.arcstring_pair.specs.declared.pair.Pair.the-variants.{Clean, End, Grazing, Apart}
 use Rattle.arcstring_pair.specs.declared.pair.Outcome.{Outcome}
-use Rattle.arcstring.specs.Leg.{Leg, leg}
+use Rattle.arcstring.specs.Leg.{Leg}
 use Rattle.arcstring_sides.specs.Sides.{grazes, isAbove, isBelow, someSide, everySide}
 use Rattle.arcstring_pair.specs.Pair.{normal, meeting, sideFrom, sideTo, sideValues, atEnd}
 use Rattle.arcstring_pair.specs.Pair.{grazingOutcome, endOrClean, classAt, pairOf}
 use Rattle.same_crossings.specs.Changes.{PointValue, pointValue}
-use Rattle.same_crossings.proofs.VectorValues.{Like, like, like-trans, Same, same-point, same-refl, same-trans, same-neg, same-dot, same-cross, same-eq}
-use Rattle.same_crossings.proofs.VectorValues.{neg-twice, cross-swap, cross-neg-left, cross-neg-right, dot-neg-right}
-
-abbrev pub turned : Leg → Leg
-turned l = leg (l .to) (l .from)
+use Rattle.sphericalpoint.proofs.VectorValues.{Like, like, like-trans, Same, same-refl, same-trans, same-neg, same-dot, same-cross, same-eq}
+use Rattle.sphericalpoint.proofs.VectorValues.{neg-twice, cross-swap, cross-neg-left, cross-neg-right, dot-neg-right}
+use Rattle.same_crossings.proofs.PointValues.{same-point}
+use Rattle.same_crossings.proofs.LegLists.{turned}
 
 -- ---- a pair's class, with the point of a clean one by value
 

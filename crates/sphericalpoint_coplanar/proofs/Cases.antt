@@ -1,16 +1,12 @@
 -- The definitions of the test of three points, at each outcome of their tests. Assumes nothing.
 use mathlib.Core.Path.{_≡_, refl, sym, ap, _∙_}
-use mathlib.Core.Bool.{Bool, true, false, not, _&&_, _||_, cond}
+use mathlib.Core.Bool.{Bool, true, false, _&&_, _||_, cond}
 use lib.Ieee.{Float, binary64, add, div, neg, lt, le}
 use Rattle.ieee754.specs.Size.{abs}
 use Rattle.sphericalpoint.specs.declared.SphericalPoint.{SphericalPoint}
 use Rattle.sphericalpoint.specs.Vector.{coplanarTolerance, xyzCross, xyzDot, xyzLength, xyzEq}
 use Rattle.sphericalpoint.specs.Point.{one}
 use Rattle.sphericalpoint_coplanar.specs.Coplanar.{betweenInPlane, betweenEnds, xyzsCoplanar}
-
-pub not-so : (b : Bool) → not b ≡ true → b ≡ false
-not-so true h = sym h
-not-so false h = refl
 
 none-of : (p i n : Bool) → i && n ≡ false → p && i && n ≡ false
 none-of false i n h = refl

@@ -40,7 +40,7 @@ fn between_ends(a: SphericalPoint, b: SphericalPoint, c: SphericalPoint) -> bool
 
 // Whether c is so far off the plane with this normal that no root is needed to tell. Where the square of the normal's length is at most 16, the
 // length is at most 4, and a fourth of 1e-7 is above the tolerance. In range the square is always that small: coordinates are from -1 to 1.
-fn far_off_plane(c: SphericalPoint, normal: SphericalPoint) -> bool
+pub fn far_off_plane(c: SphericalPoint, normal: SphericalPoint) -> bool
     ensures { λ r. ⌜ (r ≡ true → lt (xyzLength normal) coplanarTolerance ≡ false
         → lt (div binary64 (abs (xyzDot c normal)) (xyzLength normal)) coplanarTolerance ≡ false) ⌝ }
 {

@@ -47,7 +47,7 @@ pub fn sum_of(list: &[usize], m: usize) -> usize
 }
 
 // The number at place k of m made `first`, and `second` put in after it; those after stand one place further.
-fn replace_number(list: &mut [usize], m: usize, k: usize, first: usize, second: usize)
+pub fn replace_number(list: &mut [usize], m: usize, k: usize, first: usize, second: usize)
     requires { ⌜ (k < m) × (m < length (now list)) ⌝ }
     ensures { λ _. ⌜ now (list .exit) ≡ splice (now (list .entry)) k
         (first ∷ second ∷ take (m - (k + 1)) (drop (k + 1) (now (list .entry)))) ⌝ }

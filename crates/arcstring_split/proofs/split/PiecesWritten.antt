@@ -14,7 +14,8 @@ use Rattle.arcstring.specs.Points.{flat, placeOf, placesOf, buoysOf}
 use Rattle.arcstring.proofs.Flat.{flat-append}
 use Rattle.arcstring_piece.specs.Pieces.{piecesOf, sum}
 use Rattle.arcstring_split.specs.Handed.{flagsOf}
-use Rattle.arcstring_split.specs.Split.{pieceFloats, pieceBuoys, pieceCounts, pieceFlags}
+use Rattle.arcstring.specs.Written.{pieceFloats, pieceBuoys, pieceCounts}
+use Rattle.arcstring_split.specs.Split.{pieceFlags}
 
 pub pieces-counts : (cs fs : List ℕ) (vs : List Vertex) → length cs ≡ length fs → sum cs ≤ length vs → pieceCounts (piecesOf cs fs vs) ≡ cs
 unfolding piecesOf

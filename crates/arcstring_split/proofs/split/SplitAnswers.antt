@@ -24,12 +24,13 @@ use Rattle.arcstring_split_leg.specs.declared.inner.Cut.the-variants as C
 use Rattle.arcstring_split_leg.specs.SplitLeg.{unlessUncut, pieceCount, ofPieces}
 use Rattle.arcstring_split_leg.specs.Legs.{cutCount}
 use Rattle.arcstring_split_leg.proofs.Uncut.{one-uncut, two-cut}
-use Rattle.arcstring_piece.specs.Cut.{pointsIn}
+use Rattle.arcstring.specs.Written.{pointsIn}
 use Rattle.arcstring_piece.specs.Pieces.{firstPieces, heldPieces, sum, Stands}
 use Rattle.arcstring_piece.proofs.inner.replace.Pieces.{pieces-points}
 use Rattle.arcstring_piece.proofs.inner.replace.CutLists.{count-length, first-length, same-length, enough}
 use Rattle.arcstring_cut.proofs.inner.cut_place.CutPlaces.{counted-stand}
-use Rattle.arcstring_split.specs.Split.{pieceFloats, pieceBuoys, pieceCounts, pieceFlags, piecesInto}
+use Rattle.arcstring.specs.Written.{pieceFloats, pieceBuoys, pieceCounts}
+use Rattle.arcstring_split.specs.Split.{pieceFlags, piecesInto}
 use Rattle.arcstring_split.specs.Handed.{flagsOf, handedOver}
 use Rattle.arcstring_split.proofs.split.PiecesWritten.{pieces-counts, pieces-flags, pieces-floats, pieces-buoys}
 

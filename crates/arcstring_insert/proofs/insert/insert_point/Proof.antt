@@ -95,11 +95,8 @@ returns c = let d = c .before .before .before .before .before in
       omega arith,
     )
 
-insert-vertex-requires : tie.Need-insert-vertex-requires Inv-loop μ-loop
-insert-vertex-requires c κs = omega arith
-
-insert-buoy-requires : tie.Need-insert-buoy-requires Inv-loop μ-loop
-insert-buoy-requires c κs = omega arith
+insert-numbered-requires : tie.Need-insert-numbered-requires Inv-loop μ-loop
+insert-numbered-requires c κs = omega arith
 
 add-m : tie.Need-add-m Inv-loop μ-loop
 add-m c = omega arith
@@ -111,13 +108,12 @@ loop-less-2 : tie.Need-loop-less-2 Inv-loop μ-loop
 loop-less-2 c = omega arith
 
 loop-again-2 : tie.Need-loop-again-2 Inv-loop μ-loop
-loop-again-2 c = let a = c .before .before .before .before .before .before .before .before in
+loop-again-2 c = let a = c .before .before .before .before .before .before .before in
     let d = a .before .before .before .before .before in
     let s = entry d in
     let w = d .loop in
     let test = a .before .before .before .before .loop-test .taken in
-    let put = c .before .before .before .before .before .before .insert-vertex in
-    let likewise = c .before .before .insert-buoy in
+    let put = c .before .before .before .before .insert-numbered in
     let wide = w .inv .3 ∙ s .pre .2 in
     let long = w .inv .4 ∙ s .pre .3 in
     let there = leg-within _ (w .i) (w .k) (w .m) _ _ test (w .inv .1) (w .inv .2) wide long in
@@ -126,9 +122,9 @@ loop-again-2 c = let a = c .before .before .before .before .before .before .befo
       next .1,
       next .2,
       put .kept .0 ∙ w .inv .3,
-      likewise .kept .0 ∙ w .inv .4,
+      put .kept .1 .0 ∙ w .inv .4,
       walk-on (s .args .x) (w .work) (w .buoys) (w .m) (w .k) _ (w .i) _ (w .inv .5) _ test (there .0) (there .1) (there .2)
-          (a .before .before .along-leg-at .ensures) _ _ (not-false _ (a .before .if1 .left)) (next .3) wide long (put .ensures) (likewise .ensures),
+          (a .before .before .along-leg-at .ensures) (put .last .0) (put .last .1 .0) (not-false _ (a .before .if1 .left)) (next .3) (put .ensures),
     )
 
 same-length-3 : tie.Need-same-length-3 Inv-loop μ-loop
@@ -161,8 +157,7 @@ insert-point-spec =
     same-length
     same-length-2
     returns
-    insert-vertex-requires
-    insert-buoy-requires
+    insert-numbered-requires
     add-m
     add-k-2
     loop-less-2

@@ -16,7 +16,8 @@ use Rattle.arcstring_build.specs.Build.{builtString, builtNumbered}
 use Rattle.arcstring_build.proofs.BuildsWithout.{built-places}
 use Rattle.arcstring_insert.proofs.Steps.{over-limit, at-most-limit}
 use Rattle.arcstring_piece.specs.Pieces.{piece, firstPieces, sum, Stands, builtRoom}
-use Rattle.arcstring_piece.specs.Cut.{pointsIn, firstPoints, secondPoints, cutAt}
+use Rattle.arcstring.specs.Written.{pointsIn}
+use Rattle.arcstring_piece.specs.Cut.{firstPoints, secondPoints, cutAt}
 use Rattle.arcstring_piece.proofs.inner.replace.CutLists.{cutIn, cut-size, cut-held, cut-stands}
 
 -- no pieces need no room of their own

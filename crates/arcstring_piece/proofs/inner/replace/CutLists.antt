@@ -18,7 +18,8 @@ use Rattle.arcstring_check.specs.Check.{mostPoints}
 use Rattle.arcstring.proofs.Flat.{length-points, points-append}
 use Rattle.arcstring.proofs.Numbered.{numbered-append, numbered-splice, length-numbered}
 use Rattle.arcstring_piece.specs.Pieces.{piece, piecesOf, firstPieces, sum, allSome, Stands}
-use Rattle.arcstring_piece.specs.Cut.{pointsIn, noString}
+use Rattle.arcstring.specs.Written.{pointsIn}
+use Rattle.arcstring_piece.specs.Cut.{noString}
 use Rattle.arcstring_piece.proofs.inner.replace.Sums.{sum-split, some-long, some-among}
 use Rattle.arcstring_piece.proofs.inner.replace.Pieces.{flag-read, pieces-length, pieces-there}
 use Rattle.arcstring_piece.proofs.inner.replace.Cuts.{replaced, first-replaced, replaced-length, replaced-sum, replaced-some, cut-points, cut-pieces}

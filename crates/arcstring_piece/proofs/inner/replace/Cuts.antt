@@ -13,7 +13,7 @@ use Rattle.arcstring.specs.Splice.{splice}
 use Rattle.arcstring.proofs.Splices.{take-past-splice}
 use Rattle.arcstring_insert.proofs.Shifts.{drop-take}
 use Rattle.arcstring_piece.specs.Pieces.{piece, piecesOf, sum, allSome}
-use Rattle.arcstring_piece.specs.Cut.{pointsIn}
+use Rattle.arcstring.specs.Written.{pointsIn}
 use Rattle.arcstring_piece.proofs.inner.replace.Sums.{sum-append, sum-split, some-append, some-cons, some-take, some-drop}
 use Rattle.arcstring_piece.proofs.inner.replace.Pieces.{points-append, pieces-append, pieces-same, pieces-before, pieces-after, pieces-points}
 

@@ -13,7 +13,8 @@ use Rattle.arcstring.specs.declared.inner.vertex.Vertex.{Vertex}
 use Rattle.arcstring.specs.Points.{StringOf}
 use Rattle.arcstring_insert.proofs.Shifts.{drop-take}
 use Rattle.arcstring_piece.specs.Pieces.{piece, piecesOf, sum}
-use Rattle.arcstring_piece.specs.Cut.{pointsIn, noString}
+use Rattle.arcstring.specs.Written.{pointsIn}
+use Rattle.arcstring_piece.specs.Cut.{noString}
 
 -- a flag that was written for a Bool reads as that Bool
 pub flag-read : (b : Bool) → not (eqb (flagNumber b) 0) ≡ b

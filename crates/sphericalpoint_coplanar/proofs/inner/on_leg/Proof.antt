@@ -2,8 +2,9 @@
 use mathlib.Core.Path.{refl, sym, ap, _∙_}
 use lib.Ieee.{lt}
 use borrow.Author.Needs.{needs}
+use borrow.Author.Tests.{not-true}
 use Rattle.sphericalpoint.proofs.Tolerances.{coplanar-bits}
-use Rattle.sphericalpoint_coplanar.proofs.Cases.{not-so, far-off, outside, no-plane, in-plane}
+use Rattle.sphericalpoint_coplanar.proofs.Cases.{far-off, outside, no-plane, in-plane}
 use Rattle.sphericalpoint_coplanar.proofs.inner.on_leg.Statement.{statement}
 use Rattle.sphericalpoint_coplanar.proofs.inner.on_leg.Tie as tie
 
@@ -24,7 +25,7 @@ between-ends-requires c κs = search needs
 returns-2 : tie.Need-returns-2
 returns-2 c =
     let normal = c .before .before .before .before .xyz-cross in
-    outside _ _ _ (normal .result) _ (normal .ensures) refl (sym (c .before .between-ends .ensures) ∙ not-so _ (c .if2 .taken))
+    outside _ _ _ (normal .result) _ (normal .ensures) refl (sym (c .before .between-ends .ensures) ∙ not-true _ (c .if2 .taken))
 
 root-of-squares-requires : tie.Need-root-of-squares-requires
 root-of-squares-requires c κs = search needs

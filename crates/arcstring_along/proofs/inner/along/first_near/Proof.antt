@@ -4,7 +4,8 @@ use Prim.Native.Nat.{_-_}
 use lib.ListN.{drop}
 use Rattle.arcstring.specs.Points.{points}
 use Rattle.arcstring_along.specs.OnString.{firstNear}
-use Rattle.arcstring_along.proofs.NearEntries.{from, from-start, near-here, near-later, near-none}
+use Rattle.arcstring_along.proofs.FirstFound.{from, from-start}
+use Rattle.arcstring_along.proofs.NearEntries.{near-here, near-later, near-none}
 use borrow.Author.Needs.{needs}
 use Rattle.arcstring_along.proofs.inner.along.first_near.Statement.{statement}
 use Rattle.arcstring_along.proofs.inner.along.first_near.Tie as tie

@@ -5,8 +5,8 @@ use native.Mathlib.Omega.{arith}
 use lib.ListN.{length, take, drop, length-set}
 use Rattle.arcstring.specs.Splice.{splice}
 use Rattle.arcstring_insert.proofs.Moved.{moved-none, moved-step, put-before}
-use Rattle.arcstring_insert.proofs.insert.insert_buoy.Statement.{statement}
-use Rattle.arcstring_insert.proofs.insert.insert_buoy.Tie as tie
+use Rattle.arcstring_insert.proofs.inner.insert_buoy.Statement.{statement}
+use Rattle.arcstring_insert.proofs.inner.insert_buoy.Tie as tie
 
 abbrev Inv-loop : tie.InvT-loop
 Inv-loop buoys₀ n k buoy i₀ buoys i =

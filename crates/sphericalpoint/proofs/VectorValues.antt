@@ -1,15 +1,14 @@
 -- Vectors by value, where +0 and -0 are one: what a cross product, a dot product, a negation and `xyz_eq` give depends on the operands' values alone,
 -- and a negation goes through each of them. For all floats, NaN and the infinities included. Assumes nothing.
 use mathlib.Core.Path.{_≡_, refl, sym, ap, ap₂, _∙_}
-use lib.Ieee.{Float, nan, inf, fin, binary64, add, sub, mul, neg, lt}
+use lib.Ieee.{Float, binary64, add, sub, mul, neg, lt}
 use Rattle.ieee754.specs.Value.{value}
 use Rattle.ieee754.specs.Size.{abs}
-use Rattle.ieee754.proofs.Arithmetic.{neg-neg, mul-comm, mul-neg-left, mul-neg-right}
+use Rattle.ieee754.proofs.Arithmetic.{neg-neg, abs-neg, mul-comm, mul-neg-left, mul-neg-right}
 use Rattle.ieee754.proofs.ByValue.{add-value, mul-value, sub-value, neg-value, abs-value, neg-add, neg-sub, sub-swap}
 use Rattle.ieee754.proofs.Comparisons.{lt-value}
 use Rattle.sphericalpoint.specs.declared.SphericalPoint.{SphericalPoint}
 use Rattle.sphericalpoint.specs.Vector.{equalityTolerance, xyzSub, xyzMul, xyzNeg, xyzAbs, xyzSum, xyzDot, xyzCross, xyzEq}
-use Rattle.same_crossings.specs.Changes.{PointValue, pointValue}
 
 -- ---- floats of the same value
 pub data Like (x y : Float) : Type 0 where
@@ -55,12 +54,6 @@ pub record Same (u v : SphericalPoint) : Type 0 where
   pub y : Like (u .y) (v .y)
   pub z : Like (u .z) (v .z)
 
-pub same-point : {u v : SphericalPoint} → Same u v → pointValue u ≡ pointValue v
-same-point s = λ i. record { x = like-value (s .x) i; y = like-value (s .y) i; z = like-value (s .z) i }
-
-pub point-same : {u v : SphericalPoint} → pointValue u ≡ pointValue v → Same u v
-point-same e = record { x = like (ap (λ (p : PointValue). p .x) e); y = like (ap (λ (p : PointValue). p .y) e); z = like (ap (λ (p : PointValue). p .z) e) }
-
 pub same-refl : (u : SphericalPoint) → Same u u
 same-refl u = record { x = like-refl (u .x); y = like-refl (u .y); z = like-refl (u .z) }
 
@@ -104,12 +97,6 @@ module _ {u u' v v' : SphericalPoint} (p : Same u u') (q : Same v v') where
   same-eq = like-lt (same-sum same-gaps) (like-refl equalityTolerance)
 
 -- ---- points that trade places
-
-abs-neg : (x : Float) → abs (neg x) ≡ abs x
-unfolding neg abs
-abs-neg nan = refl
-abs-neg (inf s) = refl
-abs-neg (fin s m e) = refl
 
 gap-swap : (x y : Float) → Like (abs (sub binary64 x y)) (abs (sub binary64 y x))
 gap-swap x y = like-trans (like-abs (like (sub-swap binary64 x y))) (like-same (abs-neg (sub binary64 y x)))

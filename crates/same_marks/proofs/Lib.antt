@@ -1,0 +1,2 @@
+-- The proof of what is claimed.
+pub mod SameMarks
