@@ -6,4 +6,6 @@
 // legs, arcstring_listing the counts and listings of whole strings, arcstring_self those of a string with itself, arcstring_along a point on
 // a string, arcstring_measure turns and midpoints, arcstring_relation and arcstring_equals comparisons, arcstring_simplify,
 // arcstring_insert, arcstring_split_leg and arcstring_split what is changed; arcstring_point, beside this crate, single points.
+#![tactic(auto)]
+
 pub mod inner;

@@ -2,4 +2,6 @@
 // them share stands here: arcstring_relation and arcstring_equals have the calls.
 //
 // `inner`, which is all of it, is for the crates of the layer, not for users.
+#![tactic(auto)]
+
 pub mod inner;

@@ -4,5 +4,7 @@
 //     on_string whether a point is along a string
 //
 // `inner` is for the crates of the layer, not for users.
+#![tactic(auto)]
+
 pub mod inner;
 pub mod on_string;

@@ -10,7 +10,7 @@ use arcstring_check::check::{Checked, Refusal};
 use arcstring_check::inner::checks;
 
 // How many vertices were written, and whether the string is closed.
-#[derive(Drop)]
+#[derive(Clone, Copy)]
 pub enum Built {
     String(usize, bool),
     Refused(Refusal),

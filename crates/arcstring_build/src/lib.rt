@@ -4,5 +4,7 @@
 //     build     a string from a list of points
 //
 // `inner` is for the crates of the layer, not for users.
+#![tactic(auto)]
+
 pub mod build;
 pub mod inner;

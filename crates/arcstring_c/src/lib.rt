@@ -19,6 +19,8 @@
 //     split       a string split
 //     mark        marks on legs and strings, and a string cut at marks (arcstring_mark, arcstring_mark_cut)
 //     version     which version of the header belongs to the library
+#![tactic(auto)]
+
 pub mod along;
 pub mod build;
 pub mod crossing;

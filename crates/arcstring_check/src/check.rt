@@ -8,7 +8,7 @@ pub const MOST_POINTS: usize = 1024;
 pub const MOST_FLOATS: usize = 3 * MOST_POINTS;
 
 // Why a call says no. `refusal_number` of specs/Answer.antt gives the number of each.
-#[derive(Drop)]
+#[derive(Clone, Copy)]
 pub enum Refusal {
     NotTriples,
     TooFewPoints,
@@ -39,21 +39,21 @@ pub fn number(e: Refusal) -> u32
 }
 
 // What a check answers.
-#[derive(Drop)]
+#[derive(Clone, Copy)]
 pub enum Checked {
     Accepted,
     Refused(Refusal),
 }
 
 // What a yes-or-no call answers.
-#[derive(Drop)]
+#[derive(Clone, Copy)]
 pub enum Decided {
     Verdict(bool),
     Refused(Refusal),
 }
 
 // How many vertices were written.
-#[derive(Drop)]
+#[derive(Clone, Copy)]
 pub enum Written {
     Vertices(usize),
     Refused(Refusal),

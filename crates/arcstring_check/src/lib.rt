@@ -4,5 +4,7 @@
 //     check     what a call answers: why it refuses, a verdict, how many vertices it wrote
 //
 // `inner`, here and in every crate of the layer, is for the other crates and not for users: its functions may ask something.
+#![tactic(auto)]
+
 pub mod check;
 pub mod inner;

@@ -12,7 +12,7 @@ use arcstring_check::inner::checks;
 use arcstring_pair::pair::Pair;
 
 // A pair's class, or why there is none.
-#[derive(Drop)]
+#[derive(Clone, Copy)]
 pub enum Crossed {
     Pair(Pair),
     Refused(Refusal),

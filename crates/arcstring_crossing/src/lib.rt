@@ -5,5 +5,7 @@
 //     crossing  the class of a pair of legs
 //
 // `inner` is for the crates of the layer, not for users.
+#![tactic(auto)]
+
 pub mod crossing;
 pub mod inner;

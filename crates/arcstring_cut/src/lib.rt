@@ -2,4 +2,6 @@
 // local lists, so that a refusal that is found on the way leaves every buffer as it came.
 //
 // `inner` is for the crates of the layer, not for users.
+#![tactic(auto)]
+
 pub mod inner;

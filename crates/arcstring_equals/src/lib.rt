@@ -2,4 +2,6 @@
 // layer: each call takes any lists and flags, and says by its contract what it answers.
 //
 //     simplified  equals, overlaps
+#![tactic(auto)]
+
 pub mod simplified;

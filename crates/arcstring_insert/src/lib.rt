@@ -5,5 +5,7 @@
 //     insert     points put in as vertices
 //
 // `inner` is for the crates of the layer, not for users.
+#![tactic(auto)]
+
 pub mod inner;
 pub mod insert;

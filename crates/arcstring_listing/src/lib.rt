@@ -4,5 +4,7 @@
 //     listing   the crossings and counts of two strings, of a leg and a string
 //
 // `inner` is for the crates of the layer, not for users.
+#![tactic(auto)]
+
 pub mod inner;
 pub mod listing;

@@ -23,14 +23,14 @@ use arcstring_visit::inner::walk;
 use sphericalpoint::SphericalPoint;
 
 // The four counts, or why there are none.
-#[derive(Drop)]
+#[derive(Clone, Copy)]
 pub enum Counted {
     Counts(Counts),
     Refused(Refusal),
 }
 
 // How many points were kept, and the counts.
-#[derive(Drop)]
+#[derive(Clone, Copy)]
 pub enum Listed {
     Listing(usize, Counts),
     Refused(Refusal),

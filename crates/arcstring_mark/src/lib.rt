@@ -5,5 +5,7 @@
 //     mark       whether a mark lies on a leg, and on a string
 //
 // `inner` is for the crates of the layer, not for users.
+#![tactic(auto)]
+
 pub mod inner;
 pub mod mark;

@@ -2,7 +2,7 @@
 -- nothing.
 use mathlib.Core.Path.{◌≡◌, refl, ap, ap₂, ◌∙◌}
 use mathlib.Core.Bool.{Bool, true, false}
-use mathlib.Core.List.{List, [], ◌∷◌, ◌++◌, append-nil, map_id}
+use mathlib.Core.List.{List, [], ◌∷◌, ◌++◌, append-nil, map-id}
 use mathlib.Core.Option.{Option, none, some, map}
 use Prim.Native.Nat.{ℕ}
 use Rattle.sphericalpoint.specs.declared.SphericalPoint.{SphericalPoint}
@@ -28,7 +28,7 @@ opened-legs (u ∷ vs) true = refl
 pub opened_holds : OpenedHolds
 unfolding leg_holding mark_on_string
 opened_holds p ps closed =
-    ap (λ (qs : List SphericalPoint). is_some (first_holding p (legs qs false))) (map_id (opened ps closed))
+    ap (λ (qs : List SphericalPoint). is_some (first_holding p (legs qs false))) (map-id (opened ps closed))
     ∙ ap (λ (ls : List Leg). is_some (first_holding p ls)) (opened-legs ps closed)
 
 -- ---- what the pieces are

@@ -1,7 +1,7 @@
 -- Laws of a cut in the lists that pieces stand in: a mark put in twice makes two pieces of one, and pieces stand there still. Assumes nothing.
 use mathlib.Core.Path.{◌≡◌, sym, ap, ap₂, ◌∙◌}
 use mathlib.Core.Bool.{Bool, true, false, ◌||◌}
-use mathlib.Core.List.{List, [], ◌∷◌, ◌++◌, map, append_assoc, map_id}
+use mathlib.Core.List.{List, [], ◌∷◌, ◌++◌, map, append_assoc, map-id}
 use mathlib.Core.Option.{none, some}
 use Prim.Native.Nat.{ℕ, ◌+◌, ◌-◌, ◌*◌, ◌≤◌, ◌<◌}
 use native.Mathlib.Omega.{arith}
@@ -184,7 +184,7 @@ module _ (n m : ℕ) (work : List Float) (buoys counts : List ℕ) (st : Stands 
     end_of_piece x at starts =
         let ps = take (get_or counts k 0) (drop at (points work)) in
         let e : map itself ps ≡ map place_of (get_or (standing m work buoys counts) k []) =
-        map_id ps ∙ ap (λ (j : ℕ). take (get_or counts k 0) (drop j (points work))) starts ∙ sym piece_places in
+        map-id ps ∙ ap (λ (j : ℕ). take (get_or counts k 0) (drop j (points work))) starts ∙ sym piece_places in
         ap (λ (qs : List SphericalPoint). xyz_eq x.place (get_or qs 0 no_point) || xyz_eq x.place (get_or qs (length qs - 1) no_point)) e
 
     -- b whether the mark equals an end of it

@@ -1,7 +1,7 @@
 -- The ends of a run of points in a flat list, and the test of a point against them. Assumes nothing.
 use mathlib.Core.Path.{◌≡◌, sym, ap, ap₂, ◌∙◌}
 use mathlib.Core.Bool.{Bool, ◌||◌}
-use mathlib.Core.List.{List, map_id}
+use mathlib.Core.List.{List, map-id}
 use Prim.Native.Nat.{ℕ, ◌+◌, ◌-◌, ◌*◌, ◌≤◌, ◌<◌}
 use native.Mathlib.Omega.{arith}
 use lib.ListN.{length, get_or, take, drop, length-drop}
@@ -34,4 +34,4 @@ module _ (v : List Float) (at n : ℕ) (some : 1 ≤ n) (room : 3 * (at + n) ≤
       let end : b ≡ get_or run (length run - 1) no_point =
       last ∙ sym (ap (λ (l : ℕ). get_or run (l - 1) no_point) run_length_lem ∙ run_at (n - 1) (omega arith) ∙ ap (point_at v) f) in
       ap₂ ◌||◌ (one ∙ ap (xyz_eq p) start) (two ∙ ap (xyz_eq p) end)
-      ∙ ap (λ (qs : List SphericalPoint). xyz_eq p (get_or qs 0 no_point) || xyz_eq p (get_or qs (length qs - 1) no_point)) (sym (map_id run))
+      ∙ ap (λ (qs : List SphericalPoint). xyz_eq p (get_or qs 0 no_point) || xyz_eq p (get_or qs (length qs - 1) no_point)) (sym (map-id run))

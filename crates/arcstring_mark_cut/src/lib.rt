@@ -5,5 +5,7 @@
 //     cut       a string cut at marks
 //
 // pieces holds what is done to the local lists.
+#![tactic(auto)]
+
 pub mod cut;
 pub(crate) mod pieces;

@@ -3,4 +3,6 @@
 // lent.
 //
 //     measure   turn orientations and midpoints
+#![tactic(auto)]
+
 pub mod measure;

@@ -4,5 +4,7 @@
 //     pair      a pair of legs: its class and its point
 //
 // `inner` is for the crates of the layer, not for users.
+#![tactic(auto)]
+
 pub mod inner;
 pub mod pair;

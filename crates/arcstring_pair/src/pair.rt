@@ -3,7 +3,7 @@ use sphericalpoint::SphericalPoint;
 
 // What the source does with a grazing pair, by the signs of its side values, of zeros too. Where they agree `arcs_crossing` answers a point, which the
 // listings keep, or drop if it is an end; where they differ it answers none.
-#[derive(Drop)]
+#[derive(Clone, Copy)]
 pub enum Outcome {
     Kept(SphericalPoint),
     Dropped(SphericalPoint),
@@ -11,7 +11,7 @@ pub enum Outcome {
 }
 
 // The class of a pair of legs, with its point where it has one.
-#[derive(Drop)]
+#[derive(Clone, Copy)]
 pub enum Pair {
     Clean(SphericalPoint),
     End(SphericalPoint),

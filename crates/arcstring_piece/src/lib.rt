@@ -2,4 +2,6 @@
 // local lists made two. arcstring_cut walks over pieces, legs and points with it.
 //
 // `inner` is for the crates of the layer, not for users.
+#![tactic(auto)]
+
 pub mod inner;

@@ -2,4 +2,6 @@
 // contract what it answers.
 //
 //     point     the calls on single points
+#![tactic(auto)]
+
 pub mod point;

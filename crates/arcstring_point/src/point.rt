@@ -8,7 +8,7 @@ use arcstring_check::inner::checks;
 use sphericalpoint::SphericalPoint;
 
 // A point, or why there is none.
-#[derive(Drop)]
+#[derive(Clone, Copy)]
 pub enum Pointed {
     Point(SphericalPoint),
     Refused(Refusal),

@@ -2,4 +2,6 @@
 // into the places that they are lent. Each `put` returns 0 or the number of the refusal, and a refusal leaves every place as it came.
 //
 // `inner`, which is all of it, is for arcstring_c and not for users.
+#![tactic(auto)]
+
 pub mod inner;

@@ -3,4 +3,6 @@
 // copies.
 //
 //     relation    `==`, within, contains, crosses
+#![tactic(auto)]
+
 pub mod relation;

@@ -2,4 +2,6 @@
 // the promises of arcstring, of the same layer: the rounds move positions of the lent vertices, in lists that are lent or local.
 //
 // `inner` is for the crates of the layer, not for users.
+#![tactic(auto)]
+
 pub mod inner;

@@ -3,4 +3,6 @@
 // so that a refusal that is found on the way leaves every buffer as it came.
 //
 //     simplify   unnecessary vertices of a string removed
+#![tactic(auto)]
+
 pub mod simplify;

@@ -3,4 +3,6 @@
 // is found on the way leaves every buffer as it came.
 //
 //     split      a string cut at points
+#![tactic(auto)]
+
 pub mod split;

@@ -2,7 +2,7 @@
 use arcstring_check::check::Refusal;
 
 // How many pieces stand in the local lists after a cut.
-#[derive(Drop)]
+#[derive(Clone, Copy)]
 pub enum Cut {
     Pieces(usize),
     Refused(Refusal),

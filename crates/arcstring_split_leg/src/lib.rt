@@ -5,6 +5,8 @@
 //     split      a leg cut at points, and what the splits of legs and of strings answer
 //
 // cut_leg holds what is done to the local list. `inner` is for the crates of the layer, not for users.
+#![tactic(auto)]
+
 pub(crate) mod cut_leg;
 pub mod inner;
 pub mod split;

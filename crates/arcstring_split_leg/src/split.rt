@@ -11,7 +11,7 @@ use arcstring_check::check::{Checked, MOST_FLOATS, Refusal};
 use arcstring_check::inner::checks;
 
 // What a split answers: how many pieces it wrote, or that nothing was cut.
-#[derive(Drop)]
+#[derive(Clone, Copy)]
 pub enum Split {
     Uncut,
     Pieces(usize),

@@ -1,7 +1,7 @@
 // The four counts of pairs of legs.
 
 // How many of the visited pairs are in each class.
-#[derive(Drop)]
+#[derive(Clone, Copy)]
 pub struct Counts {
     pub clean: u64,
     pub end: u64,

@@ -4,5 +4,7 @@
 //     counts    the four counts
 //
 // `inner` is for the crates of the layer, not for users.
+#![tactic(auto)]
+
 pub mod counts;
 pub mod inner;

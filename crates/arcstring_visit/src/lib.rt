@@ -2,4 +2,6 @@
 // arcstring_listing. Above the promises of arcstring_tally and arcstring_crossing, of the same layer.
 //
 // All of it is `inner`: for the crates of the layer, not for users.
+#![tactic(auto)]
+
 pub mod inner;

@@ -2,4 +2,6 @@
 // positions, and says by its contract what it answers and what it leaves in each buffer that it was lent.
 //
 //     walk      backwards, restarted, and the run between two positions
+#![tactic(auto)]
+
 pub mod walk;

@@ -4,7 +4,7 @@
 use mathlib.Core.Path.{◌≡◌, refl, sym, ap, ◌∙◌, subst}
 use Prim.Native.Nat.{ℕ, zero, suc, ◌+◌, ◌-◌, ◌*◌, ◌^◌, ◌≤◌, ◌<◌, max}
 use native.Mathlib.Nat.{le_trans, le_of_eq, le_of_lt, le-max_left, le-max_right, zero-lt-suc, mul_comm, mul_assoc, mul-one, one-mul, mul_right_comm}
-use native.Mathlib.Nat.{mul-mul-mul_comm, mul-le-mul, mul-le-mul_right, le_of_mul_le_mul_right, mul-pos, add-mul, add-le-add, two-pow-succ}
+use native.Mathlib.Nat.{mul-mul-mul_comm, mul-le-mul, mul-le-mul_right, le_of_mul-le-mul_right, mul-pos, add-mul, add-le-add, two-pow-succ}
 use native.Mathlib.Omega.{arith}
 use mathlib.Core.Bool.{Bool, true, false, ◌&&◌, ◌||◌, cond, beq, true≢false}
 use lib.IntN.{ℤ, pos}
@@ -53,7 +53,7 @@ lt_or_eq a b false false h k t = absurd t
 -- m / c ≤ n / d = w / 1
 through : (m c n d w : ℕ) → 0 < d → m * d ≤ n * c → n * 1 ≡ w * d → m ≤ w * c
 through m c n d w D h e =
-    le_of_mul_le_mul_right (le_trans h (le_of_eq (ap (λ (z : ℕ). z * c) (sym (mul-one n) ∙ e) ∙ mul_right_comm w d c))) D
+    le_of_mul-le-mul_right (le_trans h (le_of_eq (ap (λ (z : ℕ). z * c) (sym (mul-one n) ∙ e) ∙ mul_right_comm w d c))) D
 
 -- for a y that is 2 ^ k: a float that is no larger than y, and not negative, is at most 2 ^ k
 under_power : (k m : ℕ) (e : ℤ) (y : Float) → HasValue y false (2 ^ k) 1 → T (le (fin false m e) y) → AtMost k (fin false m e)

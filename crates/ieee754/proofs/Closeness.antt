@@ -1,7 +1,7 @@
 -- Whole numbers that are near each other: sums, chains, squares and roots of such. Nothing here is about floats. Assumes nothing.
 use mathlib.Core.Path.{◌≡◌, ap}
 use Prim.Native.Nat.{ℕ, ◌+◌, ◌-◌, ◌*◌, ◌≤◌, ◌<◌}
-use native.Mathlib.Nat.{mul-le-mul, mul-le-mul_left, mul-le-mul_right, le_of_mul_le_mul_right}
+use native.Mathlib.Nat.{mul-le-mul, mul-le-mul_left, mul-le-mul_right, le_of_mul-le-mul_right}
 use native.Mathlib.Omega.{arith}
 use Rattle.ieee754.specs.Closeness.{Close, Near}
 
@@ -15,8 +15,8 @@ close_self u a = omega arith
 
 pub close_cancel : {u a b e : ℕ} (c : ℕ) → 0 < c → Close u (a * c) (b * c) (e * c) → Close u a b e
 close_cancel {u} {a} {b} {e} c p h = record {
-  above = le_of_mul_le_mul_right {m = u * a} {n = u * b + b + u * e} (omega (arith, h.above)) p;
-  below = le_of_mul_le_mul_right {m = u * b} {n = u * a + b + u * e} (omega (arith, h.below)) p;
+  above = le_of_mul-le-mul_right {m = u * a} {n = u * b + b + u * e} (omega (arith, h.above)) p;
+  below = le_of_mul-le-mul_right {m = u * b} {n = u * a + b + u * e} (omega (arith, h.below)) p;
 }
 
 -- ---- near, where the u-th part is counted in g-ths
@@ -43,12 +43,12 @@ under_both w k j a b e l h i =
 -- one after the other: the parts add up, and one more for their product
 pub near_trans : {w k j a b e : ℕ} → 0 < w → k * j ≤ w → Near w k a b → Near w j b e → Near w (k + j + 1) a e
 near_trans {w} {k} {j} {a} {b} {e} p l h i = record {
-  over = le_of_mul_le_mul_right (omega (arith, over_both w k j a b e l h i)) p;
-  under = le_of_mul_le_mul_right (omega (arith, under_both w k j a b e l h i)) p;
+  over = le_of_mul-le-mul_right (omega (arith, over_both w k j a b e l h i)) p;
+  under = le_of_mul-le-mul_right (omega (arith, under_both w k j a b e l h i)) p;
 }
 
 pub near_half : {w k a b : ℕ} → 0 < w → 2 * k ≤ w → Near w k a b → b ≤ 2 * a
-near_half {w} {k} {a} {b} p l h = le_of_mul_le_mul_right {m = b} {n = 2 * a} (omega (arith, h.under, mul-le-mul_right b l)) p
+near_half {w} {k} {a} {b} p l h = le_of_mul-le-mul_right {m = b} {n = 2 * a} (omega (arith, h.under, mul-le-mul_right b l)) p
 
 -- ---- squares of numbers that are close: d is a bound of what the slip comes to
 
@@ -80,10 +80,10 @@ module _ {u a b e d : ℕ} (some : 0 < u) (h : Close u a b e) (be : b * e ≤ d)
   pub squared : (g : ℕ) → g ≤ u → Squared g u a b d
   squared g few = record {
     over =
-        le_of_mul_le_mul_right {m = g * u * (a * a)} {n = g * u * (b * b) + (2 * g + 1) * (b * b) + 5 * g * (u * d)}
+        le_of_mul-le-mul_right {m = g * u * (a * a)} {n = g * u * (b * b) + (2 * g + 1) * (b * b) + 5 * g * (u * d)}
         (omega (arith, mul-le-mul_left g square_over, mul-le-mul_right (b * b) few)) some;
     under =
-        le_of_mul_le_mul_right {m = g * u * (b * b)} {n = g * u * (a * a) + (2 * g + 1) * (b * b) + 5 * g * (u * d)}
+        le_of_mul-le-mul_right {m = g * u * (b * b)} {n = g * u * (a * a) + (2 * g + 1) * (b * b) + 5 * g * (u * d)}
         (omega (arith, mul-le-mul_left g square_under)) some;
   }
 

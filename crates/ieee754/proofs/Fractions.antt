@@ -4,7 +4,7 @@ use mathlib.Core.Path.{◌≡◌}
 use mathlib.Core.Logic.{◌⊎◌, inl, inr}
 use mathlib.Core.Bool.{Bool, true, false, ◌||◌}
 use Prim.Native.Nat.{ℕ, ◌+◌, ◌*◌, ◌≤◌, ◌<◌}
-use native.Mathlib.Nat.{mul-le-mul_right, le_of_mul_le_mul_right, eq-or-lt_of_le}
+use native.Mathlib.Nat.{mul-le-mul_right, le_of_mul-le-mul_right, eq-or-lt_of_le}
 use native.Mathlib.Omega.{arith}
 use lib.Dec.{T, eqb, ltb→lt, lt→ltb, eqb→eq}
 use lib.Ieee.{Float, nan, inf, fin, up, down, lt, eq, le}
@@ -38,7 +38,7 @@ pub record Same (p n c p' n' c' : ℕ) : Type 0 where
 pub not_above_trans : {p n c p' n' c' p'' n'' c'' : ℕ} → 0 < c' → NotAbove p n c p' n' c' → NotAbove p' n' c' p'' n'' c'' → NotAbove p n c p'' n'' c''
 not_above_trans {p} {n} {c} {p'} {n'} {c'} {p''} {n''} {c''} C h k =
     record {
-      bound = le_of_mul_le_mul_right {m = p * c'' + n'' * c} {n = p'' * c + n * c''}
+      bound = le_of_mul-le-mul_right {m = p * c'' + n'' * c} {n = p'' * c + n * c''}
           (omega (arith, mul-le-mul_right c'' h.bound, mul-le-mul_right c k.bound)) C;
     }
 

@@ -3,7 +3,7 @@
 use mathlib.Core.Path.{◌≡◌, refl, sym, ap, ◌∙◌, subst}
 use mathlib.Core.Bool.{Bool, true, false, cond}
 use Prim.Native.Nat.{ℕ, zero, suc, ◌+◌, ◌*◌, ◌^◌, ◌≤◌, ◌<◌, zero-le}
-use native.Mathlib.Nat.{le_trans, le_of_eq, one-mul, mul_assoc, mul-pos, mul-mul-mul_comm, eq_of_mul_eq_mul_right, zero-lt-suc}
+use native.Mathlib.Nat.{le_trans, le_of_eq, one-mul, mul_assoc, mul-pos, mul-mul-mul_comm, eq_of_mul-eq-mul_right, zero-lt-suc}
 use native.Mathlib.Omega.{arith}
 use lib.IntN.{ℤ}
 use lib.Dec.{T, eqb, eqb→eq}
@@ -129,7 +129,7 @@ sum_from f x y F G p q h = (
 
 quotient_fraction : (a b m x y d c : ℕ) → 0 < m → a * m ≡ x * d → b * m ≡ y * c → a * c * y ≡ x * (b * d)
 quotient_fraction a b m x y d c M h k =
-    eq_of_mul_eq_mul_right m M (a * c * y) (x * (b * d)) (omega (arith, ap (λ (z : ℕ). z * (c * y)) h, ap (λ (z : ℕ). z * (x * d)) k))
+    eq_of_mul-eq-mul_right m M (a * c * y) (x * (b * d)) (omega (arith, ap (λ (z : ℕ). z * (c * y)) h, ap (λ (z : ℕ). z * (x * d)) k))
 
 -- by a number that is not zero
 module _ (f : Format) (s : Bool) (m : ℕ) (e : ℤ) (t : Bool) (n : ℕ) (d : ℤ) (F : T (fits f (fin s m e))) (G : T (fits f (fin t (suc n) d))) where

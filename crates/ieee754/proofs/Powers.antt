@@ -4,7 +4,7 @@ use mathlib.Core.Bool.{Bool, true, false, true≢false}
 use Prim.Native.Nat.{ℕ, zero, suc, ◌*◌}
 use native.Mathlib.Nat.{mul_comm, one-mul}
 use lib.IntN.{ℤ, pos, negsuc, neg_ℤ}
-use lib.Ieee.{Float, nan, inf, fin, Format, up, down, unlike, round, mul, div, eq}
+use lib.Ieee.{Float, nan, inf, fin, binary64, Format, up, down, unlike, round, mul, div, eq}
 use Rattle.ieee754.specs.PowerLaws.{power, DivPower, NotByInverse}
 
 -- 2 ^ e is up e / down e, and 2 ^ -e the same upside down

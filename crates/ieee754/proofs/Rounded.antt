@@ -4,7 +4,7 @@ use mathlib.Core.Path.{◌≡◌, refl, sym, ap, ◌∙◌, subst}
 use mathlib.Core.Logic.{◌⊎◌, inl, inr}
 use mathlib.Core.Bool.{Bool, true, false, not}
 use Prim.Native.Nat.{ℕ, suc, ◌+◌, ◌-◌, ◌*◌, ◌/◌, ◌%◌, ◌^◌, ◌≤◌, ◌<◌, zero-le, compare, Ordering}
-use native.Mathlib.Nat.{le_trans, le_of_eq, eq-zero-or-pos, mul-one, mul-pos, mul-le-mul_left, mul-le-mul_right, le_of_mul_le_mul_right, mod-lt, div-add-mod'}
+use native.Mathlib.Nat.{le_trans, le_of_eq, eq-zero-or-pos, mul-one, mul-pos, mul-le-mul_left, mul-le-mul_right, le_of_mul-le-mul_right, mod-lt, div-add-mod'}
 use native.Mathlib.Nat.{div-div-eq-div-mul, le-div_iff_mul-le, two-pow-succ}
 use native.Mathlib.Omega.{arith}
 use lib.Dec.{T, is_le, compare_is_eq, eqb, leb→le, nleb→lt, eqb→eq, eqb_refl}
@@ -73,8 +73,8 @@ close_at u n c q w (inr l) h = let k = without_slip u n c q w l h in omega arith
 -- n / c is the whole number m
 at_whole : (m c q : ℕ) → 0 < c → Half (m * c) (c * 1) q → q ≡ m
 at_whole m c q C h =
-    let a : 2 * m ≤ 2 * q + 1 = le_of_mul_le_mul_right {m = 2 * m} {n = 2 * q + 1} (omega (arith, h.above)) C in
-    let b : 2 * q ≤ 2 * m + 1 = le_of_mul_le_mul_right {m = 2 * q} {n = 2 * m + 1} (omega (arith, h.below)) C in
+    let a : 2 * m ≤ 2 * q + 1 = le_of_mul-le-mul_right {m = 2 * m} {n = 2 * q + 1} (omega (arith, h.above)) C in
+    let b : 2 * q ≤ 2 * m + 1 = le_of_mul-le-mul_right {m = 2 * q} {n = 2 * m + 1} (omega (arith, h.below)) C in
     omega arith
 
 whole_at : (u m c q w : ℕ) → 0 < c → (w ≡ 1) ⊎ (u * w ≤ 2 * (q * w)) → Half (m * c) (c * w) q → Close u m (q * w) 0
@@ -165,7 +165,7 @@ values_mono {p} {g} {c} x y C a b l = go (eq-zero-or-pos p)
     go (inl z) = le_trans (le_of_eq z) zero-le
     go (inr some) =
         let s : T (positive x) = positive_of_value x p c a some in
-        le_of_mul_le_mul_right (values_of_le x y p c g c s (above_positive y g c b (above_of_le x y s l)) a b l) C
+        le_of_mul-le-mul_right (values_of_le x y p c g c s (above_positive y g c b (above_of_le x y s l)) a b l) C
 
 pub round_monotone : RoundMonotone
 round_monotone f s t a b c d B D h i j =

@@ -9,6 +9,8 @@
 //
 // A read that fails is no end of the input: nothing is printed then, and a line on standard error says so, as it does where a write
 // fails. The status is 0 all the same, since a program in Rattle has no other: the empty output and that line stand in for it.
+#![tactic(auto)]
+
 ghost use Rattle.std.specs.Prelude.{◌≡◌, length, take};
 ghost use Rattle.io.specs.Counts.{clamp_len};
 ghost use Rattle.textform.specs.Text.{fed_with};
@@ -22,21 +24,21 @@ use textform::inner::{print, read, say};
 use textform_count::inner::count;
 
 // The reader after one read of the input, and what that read answered: how many bytes, 0 at the end, or a negative number.
-#[derive(Drop)]
+#[derive(Clone, Copy)]
 struct Turn {
     reader: Reader,
     got: isize,
 }
 
 // What was read: all of the input, with the turn that came to its end; or not all of it.
-#[derive(Drop)]
+#[derive(Clone, Copy)]
 enum Input {
     Whole(Turn),
     Failed,
 }
 
 // What there is to print: so many bytes; or nothing, since the input was not read whole.
-#[derive(Drop)]
+#[derive(Clone, Copy)]
 enum Said {
     Text(usize),
     Failed,

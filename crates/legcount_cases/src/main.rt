@@ -1,4 +1,6 @@
 // What the counting program prints for inputs other than its own stored one, each line of it after the other: the gate compares.
+#![tactic(auto)]
+
 ghost use Rattle.std.specs.Prelude.{◌≤◌, length};
 
 use textform::inner::print;

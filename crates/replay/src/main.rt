@@ -21,6 +21,8 @@
 //     strings     the calls that write a string, or its pieces, with buoys
 //     vertices    a point, the calls that write other points or measures, a run of vertices
 //     crossings   a pair of legs, listings of crossings and counts
+#![tactic(auto)]
+
 mod calls;
 mod crossings;
 mod lent;

@@ -5,14 +5,14 @@ use textform::inner::read;
 use textform::inner::read::Digit;
 
 // The number of a word, unless the input ends or has no digits there.
-#[derive(Drop)]
+#[derive(Clone, Copy)]
 enum Word {
     Value(u64),
     None,
 }
 
 // The same where the number is at most 255.
-#[derive(Drop)]
+#[derive(Clone, Copy)]
 enum Small {
     Value(u8),
     None,
@@ -20,7 +20,7 @@ enum Small {
 
 // The words before the lists: the call, two flags, two positions, the rooms of the floats, bytes, numbers and buoys lent,
 // and the margin.
-#[derive(Drop)]
+#[derive(Clone, Copy)]
 pub(crate) struct Request {
     pub(crate) call: u8,
     pub(crate) first_flag: u8,
@@ -35,14 +35,14 @@ pub(crate) struct Request {
 }
 
 // A request, unless its words are not there whole or its call is unknown.
-#[derive(Drop)]
+#[derive(Clone, Copy)]
 pub(crate) enum Asked {
     Request(Request),
     None,
 }
 
 // Whether the two words before a list's elements fit it, how many elements it has, and how many of them are given.
-#[derive(Drop)]
+#[derive(Clone, Copy)]
 struct Shape {
     whole: bool,
     length: usize,
@@ -50,7 +50,7 @@ struct Shape {
 }
 
 // Whether a list was there whole, and how many elements it has.
-#[derive(Drop)]
+#[derive(Clone, Copy)]
 pub(crate) struct Listed {
     pub(crate) whole: bool,
     pub(crate) length: usize,

@@ -3,7 +3,7 @@
 -- keeps no more points than there are clean and grazing pairs. Stated in `specs/CountLaws.antt`. Assumes nothing.
 use mathlib.Core.Path.{◌≡◌, refl, sym, ap, ap₂, subst, ◌∙◌}
 use mathlib.Core.Bool.{Bool, true, false}
-use mathlib.Core.List.{List, [], ◌∷◌, map, map_id, filter_map}
+use mathlib.Core.List.{List, [], ◌∷◌, map, map-id, filter_map}
 use mathlib.Core.Option.{none, some, Option-elim}
 use Prim.Native.Nat.{ℕ, zero, suc, ◌+◌, ◌-◌, ◌*◌, ◌≤◌}
 use native.Mathlib.Omega.{arith}
@@ -168,7 +168,7 @@ unfolding listing_of counts_of
 listed_of ps =
     record {
       counts_of_pairs = refl;
-      clean_of_pairs = clean_points_are_clean_pairs ps ∙ sym (map_id (filter_map point_of_clean ps));
+      clean_of_pairs = clean_points_are_clean_pairs ps ∙ sym (map-id (filter_map point_of_clean ps));
       as_many = as_many_clean_points ps;
       kept_at_most = few_kept ps;
     }

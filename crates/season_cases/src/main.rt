@@ -1,4 +1,6 @@
 // What the season report prints for inputs other than its own stored one, one after the other: the gate compares.
+#![tactic(auto)]
+
 ghost use Rattle.std.specs.Prelude.{◌≡◌, ◌+◌, ◌≤◌, length};
 
 use textform::inner::print;

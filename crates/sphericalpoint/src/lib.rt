@@ -3,6 +3,8 @@
 // Every function takes any floats, infinities and NaN among them. The test of three points is in sphericalpoint_coplanar.
 //
 //     inner    a length by its coordinates: for the crates of this repository
+#![tactic(auto)]
+
 ghost use Rattle.std.specs.Prelude.{◌≡◌};
 ghost use Rattle.sphericalpoint.specs.Vector.{xyz_add, xyz_sub, xyz_mul, xyz_div, xyz_neg, xyz_abs, xyz_sum, xyz_dot, xyz_cross, xyz_length, xyz_eq, normalized};
 ghost use Rattle.sphericalpoint.specs.Point.{normalized_unless_short, point_from};
@@ -12,7 +14,7 @@ use float_sizes::inner::{magnitude, size};
 pub mod inner;
 
 #[repr(C)]
-#[derive(Drop)]
+#[derive(Clone, Copy)]
 pub struct SphericalPoint {
     pub x: f64,
     pub y: f64,

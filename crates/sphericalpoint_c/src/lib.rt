@@ -1,5 +1,7 @@
 // The vector layer exported for the comparison programs of compare/: its root beside the processor's, its points
 // beside the published Rust's. Makers link arcstring_c and not this: users reach the root through the strings alone.
+#![tactic(auto)]
+
 ghost use Rattle.std.specs.Prelude.{◌≡◌};
 ghost use Rattle.square_root.specs.Sqrt.{sqrt_of};
 ghost use Rattle.sphericalpoint.specs.Vector.{xyz_eq};

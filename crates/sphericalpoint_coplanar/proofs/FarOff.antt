@@ -3,7 +3,7 @@
 use mathlib.Core.Path.{◌≡◌, refl, sym, ap, ◌∙◌, subst}
 use mathlib.Core.Bool.{Bool, true, false, ◌&&◌, cond}
 use Prim.Native.Nat.{ℕ, zero, suc, ◌+◌, ◌*◌, ◌^◌, ◌≤◌, ◌<◌}
-use native.Mathlib.Nat.{le_of_lt, lt_of_not-le, le_of_mul_le_mul_right, mul-le-mul, mul-le-mul_right, mul-pos, zero-lt-suc}
+use native.Mathlib.Nat.{le_of_lt, lt_of_not-le, le_of_mul-le-mul_right, mul-le-mul, mul-le-mul_right, mul-pos, zero-lt-suc}
 use native.Mathlib.Decide.{dec_le}
 use native.Mathlib.Omega.{arith}
 use lib.IntN.{ℤ, pos, negsuc}
@@ -71,10 +71,10 @@ root_short x r h l = go (dec_le (in_units r) (4 * 2 ^ 1074))
 
 -- n / d by its number w of units of 1 / u, and back
 in_units_lem : (n d u w c : ℕ) → 0 < d → n * u ≡ w * d → n ≤ c * d → w ≤ c * u
-in_units_lem n d u w c D e h = le_of_mul_le_mul_right {m = w} {n = c * u} (omega (arith, e, mul-le-mul_right u h)) D
+in_units_lem n d u w c D e h = le_of_mul-le-mul_right {m = w} {n = c * u} (omega (arith, e, mul-le-mul_right u h)) D
 
 of_units : (n d u w c : ℕ) → 0 < u → n * u ≡ w * d → w ≤ c * u → n ≤ c * d
-of_units n d u w c U e h = le_of_mul_le_mul_right {m = n} {n = c * d} (omega (arith, e, mul-le-mul_right d h)) U
+of_units n d u w c U e h = le_of_mul-le-mul_right {m = n} {n = c * d} (omega (arith, e, mul-le-mul_right d h)) U
 
 -- ---- the quotient
 
@@ -91,7 +91,7 @@ not_below (fin false m e) (fin false n d) p h a = le-ltb _ _ (le→cross (fin fa
 
 -- x / e is at least c / k, which is at least 8 / t, and l / d is at most 4
 at_least_eighth : (x e c k t : ℕ) → 0 < k → c * e ≤ x * k → 8 * k ≤ c * t → 8 * e ≤ x * t
-at_least_eighth x e c k t K h g = le_of_mul_le_mul_right {m = 8 * e} {n = x * t} (omega (arith, mul-le-mul_right t h, mul-le-mul_right e g)) K
+at_least_eighth x e c k t K h g = le_of_mul-le-mul_right {m = 8 * e} {n = x * t} (omega (arith, mul-le-mul_right t h, mul-le-mul_right e g)) K
 
 enough : (x e l d t : ℕ) → 8 * e ≤ x * t → l ≤ 4 * d → 2 * (l * e) ≤ x * d * t
 enough x e l d t h k = omega (arith, mul-le-mul_right d h, mul-le-mul_right e k)

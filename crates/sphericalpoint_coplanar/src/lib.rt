@@ -2,6 +2,8 @@
 // NaN among them.
 //
 //     inner    the test in parts, and by coordinates: for the crates of this repository
+#![tactic(auto)]
+
 ghost use Rattle.std.specs.Prelude.{◌≡◌};
 ghost use Rattle.sphericalpoint_coplanar.specs.Coplanar.{xyzs_coplanar};
 

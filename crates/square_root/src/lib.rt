@@ -1,5 +1,7 @@
 // The square root of an `f64`, correctly rounded, worked out from its bits in whole numbers. specs/Sqrt.antt says which
 // float it is, and specs/NearestRoot.antt what makes it the nearest to √x.
+#![tactic(auto)]
+
 ghost use Rattle.std.specs.Prelude.{◌≡◌, ◌+◌, ◌-◌, ◌*◌, ◌/◌, ◌^◌, ◌≤◌, ◌<◌};
 ghost use Rattle.std.specs.Float.{binary64};
 ghost use Rattle.std.specs.Float.Ieee.{of_bits};

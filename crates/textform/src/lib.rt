@@ -6,4 +6,6 @@
 //     inner::read    the machine over the bytes
 //     inner::print   texts, decimal numbers, the refusal line
 //     inner::say     text written, or a failure
+#![tactic(auto)]
+
 pub mod inner;

@@ -4,4 +4,6 @@
 //     inner          for the programs of this repository
 //     inner::count   the answer for what was read
 //     inner::print   the counts, printed
+#![tactic(auto)]
+
 pub mod inner;

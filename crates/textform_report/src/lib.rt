@@ -3,4 +3,6 @@
 //     inner            for the programs of this repository
 //     inner::permille  the nearest whole number to a quotient
 //     inner::lines     the heading, a track's line, the line of all
+#![tactic(auto)]
+
 pub mod inner;

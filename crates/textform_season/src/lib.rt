@@ -6,4 +6,6 @@
 //     inner::track    a track that has ended: counted, and its line
 //     inner::read     the machine over the bytes
 //     inner::report   what is printed when the input has ended
+#![tactic(auto)]
+
 pub mod inner;

@@ -3,7 +3,7 @@
 use mathlib.Core.Path.{◌≡◌, subst}
 use mathlib.Core.Bool.{true, false}
 use Prim.Native.Nat.{ℕ, zero, suc, ◌+◌, ◌*◌, ◌^◌, ◌≤◌, ◌<◌, zero-le}
-use native.Mathlib.Nat.{le_trans, le_of_lt, lt_of_not-le, zero-lt-suc, mul-le-mul, mul-le-mul_right, le_of_mul_le_mul_right}
+use native.Mathlib.Nat.{le_trans, le_of_lt, lt_of_not-le, zero-lt-suc, mul-le-mul, mul-le-mul_right, le_of_mul-le-mul_right}
 use native.Mathlib.Decide.{dec_le}
 use native.Mathlib.Omega.{arith}
 use lib.Dec.{T, lt→ltb, lit≤}
@@ -52,7 +52,7 @@ module _ (x y z p q r s t l m : ℕ) (some : 0 < m)
 
   -- the slip of each square is nothing beside the sum
   t_big : 2 ^ 70 ≤ t
-  t_big = le_of_mul_le_mul_right {m = 2 ^ 70} {n = t} (halves long (near_half (lit≤ tt) (lit≤ tt) R)) some
+  t_big = le_of_mul-le-mul_right {m = 2 ^ 70} {n = t} (halves long (near_half (lit≤ tt) (lit≤ tt) R)) some
 
   s_big : 2 ^ 69 ≤ s + r
   s_big = halves {a = 2 ^ 69} t_big (near_half (lit≤ tt) (lit≤ tt) second)

@@ -3,7 +3,7 @@
 use mathlib.Core.Path.{◌≡◌, refl, sym, ap, subst}
 use mathlib.Core.Bool.{Bool, true, false, not}
 use Prim.Native.Nat.{ℕ, ◌*◌, ◌^◌, ◌≤◌, ◌<◌}
-use native.Mathlib.Nat.{le_trans, mul-lt-mul_of_pos_right, mul-le-mul_right, le_of_mul_le_mul_right}
+use native.Mathlib.Nat.{le_trans, mul-lt-mul_of_pos_right, mul-le-mul_right, le_of_mul-le-mul_right}
 use native.Mathlib.Omega.{arith}
 use lib.IntN.{ℤ, negsuc}
 use lib.Dec.{T, ltb, nltb→le, ltb→lt, lit≤}
@@ -25,14 +25,14 @@ tolerance_is = refl
 -- n / d as a number of units w of 1 / m, against c / k
 no_less : (n d m w c k : ℕ) → 0 < d → n * m ≡ w * d → c * d ≤ n * k → c * m ≤ w * k
 no_less n d m w c k D e h =
-    le_of_mul_le_mul_right {m = c * m} {n = w * k} (omega (arith, mul-le-mul_right m h, ap (λ (z : ℕ). z * k) e)) D
+    le_of_mul-le-mul_right {m = c * m} {n = w * k} (omega (arith, mul-le-mul_right m h, ap (λ (z : ℕ). z * k) e)) D
 
 long_at : (n : ℕ) (d : ℤ) → T (fits binary64 (fin false n d)) → T (not (lt (fin false n d) tolerance)) → 2 ^ 1039 ≤ in_units (fin false n d)
 unfolding lt
 long_at n d F h =
     let l : 0x107e1fe91b0b7 * 1 * down d ≤ n * up d * 2 ^ 83 = nltb→le (n * up d * 2 ^ 83) (0x107e1fe91b0b7 * 1 * down d) h in
     let g = no_less (n * up d) (down d) (2 ^ 1074) (in_units (fin false n d)) (0x107e1fe91b0b7 * 1) (2 ^ 83) (down_pos d) (exact_units binary64 false n d F) l in
-    le_of_mul_le_mul_right (le_trans (lit≤ {m = 2 ^ 1039 * 2 ^ 83} {n = 0x107e1fe91b0b7 * 1 * 2 ^ 1074} tt) g) (pow_pos 83)
+    le_of_mul-le-mul_right (le_trans (lit≤ {m = 2 ^ 1039 * 2 ^ 83} {n = 0x107e1fe91b0b7 * 1 * 2 ^ 1074} tt) g) (pow_pos 83)
 
 -- a length is not negative, so the sign is not in the way
 pub long_units : (l : Float) → T (fits binary64 l) → T (not_negative l) → T (not (lt l equality_tolerance)) → 2 ^ 1039 ≤ in_units l

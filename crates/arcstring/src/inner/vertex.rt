@@ -8,7 +8,7 @@ ghost use Rattle.arcstring.specs.Splice.{splice};
 use sphericalpoint::SphericalPoint;
 
 // A vertex as it is lent and written: its point, and the number of its buoy, 0 for none.
-#[derive(Drop)]
+#[derive(Clone, Copy)]
 pub struct Vertex {
     pub place: SphericalPoint,
     pub buoy: u32,

@@ -10,7 +10,7 @@ use arcstring_near::inner::is_near;
 use sphericalpoint::SphericalPoint;
 
 // The position of the first near entry that passes.
-#[derive(Drop)]
+#[derive(Clone, Copy)]
 pub enum Found {
     At(usize),
     Nothing,

@@ -18,7 +18,7 @@ use sphericalpoint::SphericalPoint;
 // What the pair test takes of a leg, worked out once for a leg that is tested against many: its own cross product, and the vectors
 // whose dot products with the meeting of two legs are its side values. That with `past_start` is above zero where the meeting
 // lies past the leg's start, that with `before_end` where it lies before its end.
-#[derive(Drop)]
+#[derive(Clone, Copy)]
 pub struct Plane {
     pub normal: SphericalPoint,
     pub past_start: SphericalPoint,

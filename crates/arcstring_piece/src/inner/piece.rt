@@ -10,7 +10,7 @@ use arcstring::inner::vertex;
 use arcstring::inner::vertex::Vertex;
 
 // How many vertices a piece has, and 1 for a closed one, 0 for an open one.
-#[derive(Drop)]
+#[derive(Clone, Copy)]
 pub(crate) struct Piece {
     pub(crate) count: usize,
     pub(crate) flag: usize,

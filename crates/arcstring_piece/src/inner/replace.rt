@@ -59,7 +59,7 @@ pub fn replace_number(list: &mut [usize], m: usize, k: usize, first: usize, seco
 }
 
 // The two pieces of a cut.
-#[derive(Drop)]
+#[derive(Clone, Copy)]
 struct Halves {
     first: Piece,
     second: Piece,

@@ -13,7 +13,7 @@ use arcstring_pair::pair::{Outcome, Pair};
 use sphericalpoint::SphericalPoint;
 
 // How many of the pairs visited so far are in each class, and how many of them are kept.
-#[derive(Drop)]
+#[derive(Clone, Copy)]
 pub struct Tally {
     pub clean: u64,
     pub end: u64,

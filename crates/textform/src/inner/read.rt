@@ -43,7 +43,7 @@ const SIGN_BIT: u64 = 0x8000_0000_0000_0000;
 const INFINITY: u64 = 0x7ff0_0000_0000_0000;
 
 // What may stand at a place of the input.
-#[derive(Drop)]
+#[derive(Clone, Copy)]
 pub enum Part {
     Exactly(u8),
     Name,
@@ -53,7 +53,7 @@ pub enum Part {
 }
 
 // The value of a hexadecimal digit.
-#[derive(Drop)]
+#[derive(Clone, Copy)]
 pub enum Digit {
     Value(u8),
     None,
@@ -61,7 +61,7 @@ pub enum Digit {
 
 // Where the reading stands: the place of the next byte, whether its row is B's, the digits of its float so far, and how many
 // floats of A and of B are kept.
-#[derive(Drop)]
+#[derive(Clone, Copy)]
 pub struct Reader {
     pub place: usize,
     pub second: bool,

@@ -23,7 +23,7 @@ use textform::inner::read;
 use textform::inner::read::Reader;
 
 // Counts, or the number of a refusal.
-#[derive(Drop)]
+#[derive(Clone, Copy)]
 pub enum Conclusion {
     Counts(Counts),
     Refused(u32),

@@ -11,7 +11,7 @@ use textform::inner::read::{Digit, hex_digit, wide};
 const MOST_TRACKS: u64 = 1000;
 
 // What has been read of it: nothing, `L`, or the digits of a track's number.
-#[derive(Drop)]
+#[derive(Clone, Copy)]
 pub enum Column {
     Empty,
     Limit,
@@ -19,7 +19,7 @@ pub enum Column {
 }
 
 // What stands there after one byte more, if it may stand there.
-#[derive(Drop)]
+#[derive(Clone, Copy)]
 pub(crate) enum Next {
     Column(Column),
     None,

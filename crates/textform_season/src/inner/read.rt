@@ -14,7 +14,7 @@ use textform::inner::read::Reader;
 
 // Where the reading stands: in its row, as of two strings; what has been read of the first column; the number of the last track, 0 before
 // the first; and what is kept of the tracks before it.
-#[derive(Drop)]
+#[derive(Clone, Copy)]
 pub struct Reading {
     pub row: Reader,
     pub column: Column,

@@ -13,14 +13,14 @@ use textform_count::inner::count::{Conclusion, count_built};
 use textform_report::inner::lines::{add_counts, put_heading, put_track};
 
 // Where the lines end, and the sums of their counts.
-#[derive(Drop)]
+#[derive(Clone, Copy)]
 pub struct Lines {
     pub at: usize,
     pub sums: Counts,
 }
 
 // The tracks that have ended: counted; or the number of the first refusal among them.
-#[derive(Drop)]
+#[derive(Clone, Copy)]
 pub enum Tracks {
     Counted(Lines),
     Refused(u32),

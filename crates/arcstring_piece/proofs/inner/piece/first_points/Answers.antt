@@ -1,0 +1,10 @@
+-- `first_points` writes the vertices up to the start of leg i, and the point after them, floats and numbers alike. Assumes nothing.
+use native.Mathlib.Omega.{arith}
+use borrow.Author.Rules.{rules}
+use Rattle.arcstring_piece.proofs.inner.piece.HalfPoints.{first_written}
+use Rattle.arcstring_piece.proofs.inner.piece.first_points.Goals as goal
+
+pub returns : goal.returns
+returns c =
+    first_written c.args.v.now c.args.buoys.now c.args.i c.args.x c.requires.0 c.requires.1 _ _ _ _ _ (omega arith)
+    c.copy_run.ensures c.copy_buoys.ensures c.put_vertex.ensures

@@ -1,0 +1,26 @@
+-- The legs of one string against those of another, or of the same, counted and, if the walk writes, written. The loop's invariant: what is counted, with the
+-- pairs still to be visited counted on, is the count of all pairs, and so of what is written. Assumes nothing.
+use mathlib.Core.Path.{◌≡◌, refl, ◌∙◌}
+use mathlib.Core.List.{◌++◌}
+use Prim.Native.Nat.{◌+◌, ◌-◌}
+use native.Mathlib.Nat.{le_trans}
+use lib.ListN.{length}
+use Rattle.arcstring.specs.Leg.{leg_of}
+use Rattle.arcstring_tally.specs.Tally.{no_tally, tally_on}
+use Rattle.arcstring_visit.specs.Visit.{row_pairs, visits_from}
+use Rattle.arcstring_visit.proofs.Bounds.{place_small, step_fits, still_long, sum_with_row}
+use Rattle.arcstring_visit.proofs.Rows.{visits_next, visits_none, visits_few}
+use Rattle.arcstring_tally.proofs.Tallies.{counted_on, counted_none, counted_all}
+use Rattle.arcstring_visit.proofs.Walks.{WalksSame, walk_from_none, walk_room, walk_on, walk_done}
+use borrow.Author.Count.{falls}
+use borrow.Author.Rules.{rules}
+use Rattle.arcstring_visit.proofs.inner.walk.walk.Given as goal
+
+abbrev pub invariant-loop-i : goal.invariant-loop-i
+invariant-loop-i l =
+    (tally_on l.t (visits_from l.margin l.within l.a l.i l.la l.b l.lb) ≡ tally_on no_tally (visits_from l.margin l.within l.a 0 l.la l.b l.lb))
+    × WalksSame l.write (visits_from l.margin l.within l.a 0 l.la l.b l.lb) 0 l.initial.points l.initial.marks (visits_from l.margin l.within l.a l.i l.la l.b l.lb) l.t.kept l.points l.marks
+    × (length l.points ≡ length l.initial.points) × (length l.marks ≡ length l.initial.marks) × (length l.flags ≡ length l.initial.flags) × (length l.flagged ≡ length l.initial.flagged)
+
+abbrev pub decreases-loop-i : goal.decreases-loop-i
+decreases-loop-i l = l.la - l.i

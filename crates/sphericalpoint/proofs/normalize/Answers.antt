@@ -1,0 +1,8 @@
+-- `sphericalpoint::normalize` meets its contract by what its calls ensure. Assumes nothing.
+use Rattle.sphericalpoint.specs.Vector.{normalized}
+use borrow.Author.Rules.{rules}
+use Rattle.sphericalpoint.proofs.normalize.Goals as goal
+
+pub returns : goal.returns
+unfolding normalized
+returns c = cc

@@ -1,0 +1,9 @@
+-- `read::begin` gives the state before the first byte. Assumes nothing.
+use mathlib.Core.Path.{refl}
+use native.Mathlib.Omega.{arith}
+use Rattle.textform.specs.Kept.{digits_before}
+use Rattle.textform.proofs.inner.read.begin.Goals as goal
+
+pub returns : goal.returns
+unfolding digits_before
+returns c = (record { place = omega arith; word = omega arith; a = omega arith; b = omega arith }, refl, refl, refl)

@@ -1,0 +1,14 @@
+-- `read::take_exactly` goes on where the byte is the one that has to stand there. Assumes nothing.
+use borrow.Author.Rules.{rules}
+use borrow.Author.Tests.{eq-eqb, ne_eqb}
+use Rattle.textform.proofs.inner.read.Places.{rule_at, some_power}
+use Rattle.textform.proofs.inner.read.take_exactly.Goals as goal
+
+pub onward-requires : goal.onward-requires
+onward-requires c = (c.requires.0, (rule_at _ _ c.requires.1).in-row, some_power _)
+
+pub returns-then-byte-c : goal.returns-then-byte-c
+returns-then-byte-c c = (c.onward.ensures.0, λ a b. rw (eq-eqb _ _ c.if-byte-c.true) (c.onward.ensures.1 a b))
+
+pub returns : goal.returns
+returns c = (c.malformed.ensures.0, λ a b. rw (ne_eqb _ _ c.if-byte-c.false) (c.malformed.ensures.1 a b))

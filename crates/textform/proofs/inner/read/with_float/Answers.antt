@@ -1,0 +1,14 @@
+-- `read::with_float` keeps a whole float for the string of its row, by `Reading`. Assumes nothing.
+use Rattle.textform.proofs.inner.read.Reading.{second_kept, first_kept}
+use borrow.Author.Rules.{rules}
+use Rattle.textform.proofs.inner.read.with_float.Goals as goal
+
+pub returns-then-r : goal.returns-then-r
+returns-then-r c =
+    second_kept c.args.r c.requires.0 _ _ c.keep-n.result c.args.a.now c.args.b.now c.requires.1 c.place_after-place.ensures
+    c.keep-n.ensures.1 c.keep-n.new.list c.if-r.true c.keep-n.ensures.0
+
+pub returns : goal.returns
+returns c =
+    first_kept c.args.r c.requires.0 _ _ c.keep-n-2.result c.args.a.now c.args.b.now c.requires.1 c.place_after-place.ensures
+    c.keep-n-2.ensures.1 c.keep-n-2.new.list c.if-r.false c.keep-n-2.ensures.0

@@ -1,0 +1,39 @@
+-- `conclude` prints 8 where the input is malformed, and else what `count_built` answers. Assumes nothing.
+use mathlib.Core.Path.{sym}
+use native.Mathlib.Omega.{arith}
+use lib.Seq.{length-take-le}
+use borrow.Author.Rules.{rules}
+use Rattle.textform.specs.Text.{State}
+use Rattle.textform.specs.Kept.{held_state}
+use Rattle.textform_count.proofs.inner.count.Concluded.{malformed-printed, conclusion_printed}
+use Rattle.textform_count.proofs.inner.count.conclude.Goals as goal
+use Rattle.textform_count.proofs.inner.count.conclude.Goals.{After-count_built-conclusion}
+
+-- what was read, from the answer for it
+abbrev held : After-count_built-conclusion → State
+held c = held_state c.args.r c.args.a.now c.args.b.now
+
+pub returns-then-r-ne-ROW_START : goal.returns-then-r-ne-ROW_START
+returns-then-r-ne-ROW_START c =
+    (malformed-printed (held_state c.args.r c.args.a.now c.args.b.now) _ c.if-r-ne-ROW_START.true c.print_refusal.ensures.0, c.print_refusal.ensures.1)
+
+pub slice_bounds-count_built-end : goal.slice_bounds-count_built-end
+slice_bounds-count_built-end c = sym (length-take-le _ _ (omega arith))
+
+pub slice_bounds-count_built-end-2 : goal.slice_bounds-count_built-end-2
+slice_bounds-count_built-end-2 c = sym (length-take-le _ _ (omega arith))
+
+pub count_built-conclusion-requires : goal.count_built-conclusion-requires
+count_built-conclusion-requires c =
+    (
+      omega (arith, length-take-le c.args.r.a c.args.a.now (omega arith)),
+      omega (arith, length-take-le c.args.r.b c.args.b.now (omega arith)),
+    )
+
+pub returns-in-Refused : goal.returns-in-Refused
+returns-in-Refused c =
+    (conclusion_printed (held c.before.before.before.before.before.before.before) _ _ _ c.if-r-ne-ROW_START.false c.count_built-conclusion.ensures c.in-Refused.is c.print_refusal-in-Refused.ensures.0, c.print_refusal-in-Refused.ensures.1)
+
+pub returns-in-Counts : goal.returns-in-Counts
+returns-in-Counts c =
+    (conclusion_printed (held c.before.before.before.before.before.before.before) _ _ _ c.if-r-ne-ROW_START.false c.count_built-conclusion.ensures c.in-Counts.is c.print_counts.ensures.0, c.print_counts.ensures.1)
