@@ -45,6 +45,10 @@ by_sign true z a b p n one r f h = grazing
 by_sign false true false false p n only_first r f h = never (sym (r refl))
 by_sign false false true false p n only_second r f h = rw (← f refl, ← h refl) over
 by_sign false false false true p n only_third r f h = rw (← f refl, ← h refl) under
+by_sign false false false false p n one r f h = elim one [ ]
+by_sign false false true true p n one r f h = elim one [ ]
+by_sign false true false true p n one r f h = elim one [ ]
+by_sign false true true b p n one r f h = elim one [ ]
 
 -- some grazes; all above, all below; some above, some below; all sign bits clear, all set
 data AllSides : Bool → Bool → Bool → Bool → Bool → Bool → Bool → Type 0 where

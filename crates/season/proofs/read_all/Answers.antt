@@ -29,14 +29,13 @@ module _ (f : After-read_some-turn) where
   out-length = f.read_Some.kept.1.1.1.1.0 ∙ (at-loop f).loop.inv.3
 
 pub loop-turns-init : goal.loop-turns-init
-loop-turns-init c =
-    (
-      no_pieces c.begin-reading.result c.args.limit.now c.args.track.now _ c.begin-reading.ensures.0 (c.begin-reading.ensures.1 _ _),
-      c.requires.0,
-      c.requires.1,
-      c.begin-reading.auto.0 ∙ c.requires.2,
-      sym c.buffer-bytes.ensures,
-    )
+loop-turns-init c = (
+  no_pieces c.begin-reading.result c.args.limit.now c.args.track.now _ c.begin-reading.ensures.0 (c.begin-reading.ensures.1 _ _),
+  c.requires.0,
+  c.requires.1,
+  c.begin-reading.auto.0 ∙ c.requires.2,
+  sym c.buffer-bytes.ensures,
+)
 
 pub slice_bounds-read_some-end : goal.slice_bounds-read_some-end
 slice_bounds-read_some-end c = sym c.loop-turns.invariant.4

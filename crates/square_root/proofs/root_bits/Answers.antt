@@ -59,8 +59,7 @@ overflow_add-result c =
 pub returns : goal.returns
 returns c =
     let parts : Parts c.significand-m.result c.place.result = parts_of c.requires c.significand-m.ensures c.place.ensures in
-    let whole : WholeRoot (placed c.significand-m.result c.place.result * 2 ^ 54) c.root54-r.result = subst (λ (n : ℕ). WholeRoot (n * 2 ^ 54) c.root54-r.result) (placed_is parts) c.root54-r.ensures in
-    (
+    let whole : WholeRoot (placed c.significand-m.result c.place.result * 2 ^ 54) c.root54-r.result = subst (λ (n : ℕ). WholeRoot (n * 2 ^ 54) c.root54-r.result) (placed_is parts) c.root54-r.ensures in (
       pattern_lt parts whole,
       pattern_is parts whole
           ∙ ap (λ (m : ℕ). sqrt_of (odd 53 false m c.place.result 1074)) c.significand-m.ensures

@@ -18,13 +18,12 @@ pub normalize_unless_short-requires : goal.normalize_unless_short-requires
 normalize_unless_short-requires c = tt
 
 pub loop-i-preserved : goal.loop-i-preserved
-loop-i-preserved c =
-    (
-      omega arith,
-      c.put_vertex.auto.out ∙ c.loop-i.invariant.1,
-      map-step normalized_unless_short _ c.loop-i.i _ _ _ _ (omega arith) c.loop-i.invariant.2 (c.normalize_unless_short.ensures ∙ ap normalized_unless_short c.vertex_at-p.ensures)
-          c.put_vertex.ensures,
-    )
+loop-i-preserved c = (
+  omega arith,
+  c.put_vertex.auto.out ∙ c.loop-i.invariant.1,
+  map-step normalized_unless_short _ c.loop-i.i _ _ _ _ (omega arith) c.loop-i.invariant.2 (c.normalize_unless_short.ensures ∙ ap normalized_unless_short c.vertex_at-p.ensures)
+      c.put_vertex.ensures,
+)
 
 pub shape_of-out : goal.shape_of-out
 shape_of-out c = c.loop-i.invariant.1

@@ -17,12 +17,6 @@ check_leg-requires-2 c = tt
 pub first_of-checked-requires : goal.first_of-checked-requires
 first_of-checked-requires c = tt
 
-pub enum_known-checked : goal.enum_known-checked
-enum_known-checked c = c.in-Refused.keys1
-
-pub enum_told-1 : goal.enum_told-1
-enum_told-1 c = c.in-Refused.keys2
-
 pub pair_of-requires : goal.pair_of-requires
 pair_of-requires c = tt
 

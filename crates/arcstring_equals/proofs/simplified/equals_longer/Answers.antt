@@ -31,14 +31,13 @@ pub slice_bounds-equal_strings-end : goal.slice_bounds-equal_strings-end
 slice_bounds-equal_strings-end c = sym (length-take-le _ c.simplify_points-second.new.out (array-share-prefix-long c))
 
 pub equal_strings-requires-in-Vertices : goal.equal_strings-requires-in-Vertices
-equal_strings-requires-in-Vertices c =
-    (
-      c.requires.0,
-      c.requires.1,
-      copy_accepted c.args.longer.now c.args.longer_near.now _ c.requires.2 _ _ _ c.simplify_points-second.ensures.result_value c.simplify_points-second.ensures.out_after _
-          c.in-Vertices.is,
-      c.requires.2,
-    )
+equal_strings-requires-in-Vertices c = (
+  c.requires.0,
+  c.requires.1,
+  copy_accepted c.args.longer.now c.args.longer_near.now _ c.requires.2 _ _ _ c.simplify_points-second.ensures.result_value c.simplify_points-second.ensures.out_after _
+      c.in-Vertices.is,
+  c.requires.2,
+)
 
 pub returns-in-Refused : goal.returns-in-Refused
 returns-in-Refused c =

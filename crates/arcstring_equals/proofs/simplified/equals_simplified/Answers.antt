@@ -28,14 +28,13 @@ pub slice_bounds-equals_longer-end : goal.slice_bounds-equals_longer-end
 slice_bounds-equals_longer-end c = sym (length-take-le _ c.simplify_points-first.new.out (array-share-prefix-short c))
 
 pub equals_longer-requires : goal.equals_longer-requires
-equals_longer-requires c =
-    (
-      copy_accepted c.args.shorter.now c.args.shorter.now _ c.requires.0 _ _ _ c.simplify_points-first.ensures.result_value c.simplify_points-first.ensures.out_after _
-          c.in-Vertices.is,
-      c.requires.0,
-      c.requires.1,
-      c.requires.2,
-    )
+equals_longer-requires c = (
+  copy_accepted c.args.shorter.now c.args.shorter.now _ c.requires.0 _ _ _ c.simplify_points-first.ensures.result_value c.simplify_points-first.ensures.out_after _
+      c.in-Vertices.is,
+  c.requires.0,
+  c.requires.1,
+  c.requires.2,
+)
 
 pub returns-in-Refused : goal.returns-in-Refused
 returns-in-Refused c =

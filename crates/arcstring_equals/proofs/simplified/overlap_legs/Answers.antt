@@ -26,8 +26,7 @@ along_string-requires c = (c.requires.1, c.requires.2)
 pub loop-k-preserved-then-not-along_string : goal.loop-k-preserved-then-not-along_string
 loop-k-preserved-then-not-along_string c =
     let whole : length c.args.a.now ≡ 3 *
-    (length c.args.a.now / 3) = (stored_whole c.args.a.now c.requires.0).triples in
-    (
+    (length c.args.a.now / 3) = (stored_whole c.args.a.now c.requires.0).triples in (
       omega arith,
       omega arith,
       start-not-along _ _ c.args.a.now _ whole c.loop-k.k _ _ c.loop-k.invariant.0
@@ -55,8 +54,7 @@ returns-then-along_string c =
 pub loop-k-preserved : goal.loop-k-preserved
 loop-k-preserved c =
     let whole : length c.args.a.now ≡ 3 *
-    (length c.args.a.now / 3) = (stored_whole c.args.a.now c.requires.0).triples in
-    (
+    (length c.args.a.now / 3) = (stored_whole c.args.a.now c.requires.0).triples in (
       omega arith,
       omega arith,
       end_not-along _ _ c.args.a.now _ whole c.loop-k.k _ _ c.loop-k.invariant.0 c.loop-k-test.true

@@ -42,15 +42,14 @@ pub slice_bounds-equals_strings-end-in-Vertices-second : goal.slice_bounds-equal
 slice_bounds-equals_strings-end-in-Vertices-second c = sym (length-take-le _ c.simplify_points-second.new.out (array-share-prefix-simple-b c))
 
 pub equals_strings-requires : goal.equals_strings-requires
-equals_strings-requires c =
-    (
-      copy_accepted c.args.a.now c.args.a.now _ c.requires.0 _ _ _ c.simplify_points-first.ensures.result_value c.simplify_points-first.ensures.out_after _
-          c.in-Vertices.is,
-      c.requires.0,
-      copy_accepted c.args.b.now c.args.b.now _ c.requires.1 _ _ _ c.simplify_points-second.ensures.result_value c.simplify_points-second.ensures.out_after _
-          c.in-Vertices-second.is,
-      c.requires.1,
-    )
+equals_strings-requires c = (
+  copy_accepted c.args.a.now c.args.a.now _ c.requires.0 _ _ _ c.simplify_points-first.ensures.result_value c.simplify_points-first.ensures.out_after _
+      c.in-Vertices.is,
+  c.requires.0,
+  copy_accepted c.args.b.now c.args.b.now _ c.requires.1 _ _ _ c.simplify_points-second.ensures.result_value c.simplify_points-second.ensures.out_after _
+      c.in-Vertices-second.is,
+  c.requires.1,
+)
 
 pub returns-in-Refused : goal.returns-in-Refused
 returns-in-Refused c =

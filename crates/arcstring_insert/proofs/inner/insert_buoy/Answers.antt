@@ -11,13 +11,12 @@ pub loop-i-init : goal.loop-i-init
 loop-i-init c = (omega arith, omega arith, refl, moved_none c.args.buoys.now c.args.n)
 
 pub loop-i-preserved : goal.loop-i-preserved
-loop-i-preserved c =
-    (
-      omega arith,
-      omega arith,
-      simp length-set c.loop-i.invariant.2,
-      moved_step c.args.buoys.now _ c.args.n c.loop-i.i (omega arith) (omega arith) (omega arith) c.loop-i.invariant.3,
-    )
+loop-i-preserved c = (
+  omega arith,
+  omega arith,
+  simp length-set c.loop-i.invariant.2,
+  moved_step c.args.buoys.now _ c.args.n c.loop-i.i (omega arith) (omega arith) (omega arith) c.loop-i.invariant.3,
+)
 
 pub shape_of-buoys : goal.shape_of-buoys
 shape_of-buoys c = simp length-set c.loop-i.invariant.2

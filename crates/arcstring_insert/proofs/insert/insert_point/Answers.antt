@@ -22,7 +22,6 @@ loop-i-init c =
   refl,
   walk_begin c.args.x c.args.work.now c.args.buoys.now c.args.n _
       c.args.closed (omega arith) (omega arith) c.leg_count-legs.ensures.0,
-
 )
 
 pub slice_bounds-along_leg_at-end-in-loop-i : goal.slice_bounds-along_leg_at-end-in-loop-i

@@ -27,14 +27,13 @@ pub shape_of-buoys-in_default : goal.shape_of-buoys-in_default
 shape_of-buoys-in_default c = c.insert_point-inserted.auto.buoys ∙ c.loop-i.invariant.4
 
 pub returns-in_default : goal.returns-in_default
-returns-in_default c =
-    (
-      points_stop c.args.closed c.args.extra.now c.args.extra_buoys.now c.requires.4 c.loop-i.work c.loop-i.buoys c.loop-i.m
-          c.loop-i.i _ c.loop-i.invariant.5 _ _ c.insert_point-inserted.new.work c.insert_point-inserted.new.buoys
-          c.loop-i-test.true c.numbered_at-x.ensures c.insert_point-inserted.ensures.0 _
-          c.in_default.is,
-      c.insert_point-inserted.ensures.1,
-    )
+returns-in_default c = (
+  points_stop c.args.closed c.args.extra.now c.args.extra_buoys.now c.requires.4 c.loop-i.work c.loop-i.buoys c.loop-i.m
+      c.loop-i.i _ c.loop-i.invariant.5 _ _ c.insert_point-inserted.new.work c.insert_point-inserted.new.buoys
+      c.loop-i-test.true c.numbered_at-x.ensures c.insert_point-inserted.ensures.0 _
+      c.in_default.is,
+  c.insert_point-inserted.ensures.1,
+)
 
 pub loop-i-preserved : goal.loop-i-preserved
 loop-i-preserved c =
@@ -62,9 +61,8 @@ pub shape_of-buoys : goal.shape_of-buoys
 shape_of-buoys c = c.loop-i.invariant.4
 
 pub returns : goal.returns
-returns c =
-    (
-      points_end c.args.closed c.args.extra.now c.args.extra_buoys.now c.requires.4 c.loop-i.work c.loop-i.buoys c.loop-i.m
-          c.loop-i.i _ c.loop-i.invariant.5 c.loop-i-test.false,
-      c.loop-i.invariant.2,
-    )
+returns c = (
+  points_end c.args.closed c.args.extra.now c.args.extra_buoys.now c.requires.4 c.loop-i.work c.loop-i.buoys c.loop-i.m
+      c.loop-i.i _ c.loop-i.invariant.5 c.loop-i-test.false,
+  c.loop-i.invariant.2,
+)

@@ -25,7 +25,7 @@ pub copy_buoys-requires : goal.copy_buoys-requires
 copy_buoys-requires c =
     let number : check_number c.first_of-checked.result ≡ first_of (string_check c.args.v.now c.args.buoys.now) (points_check c.args.extra.now c.args.extra_buoys.now) = c.first_of-checked.ensures ∙ both_numbers c.check_string.ensures c.check_points.ensures in
     let both : Both c.args.v.now c.args.buoys.now c.args.extra.now c.args.extra_buoys.now = both_accepted _ _ _ _ _ number c.in_default.is in
-    (omega (arith, both.numbers-1), omega (arith, both.vertices.at_most))
+    (omega (arith, both.numbers), omega (arith, both.vertices.at_most))
 
 pub insert_points-inserted-requires : goal.insert_points-inserted-requires
 insert_points-inserted-requires c =
@@ -44,7 +44,7 @@ returns c =
     let number : check_number c.first_of-checked.result ≡ first_of (string_check c.args.v.now c.args.buoys.now) (points_check c.args.extra.now c.args.extra_buoys.now) = c.first_of-checked.ensures ∙ both_numbers c.check_string.ensures c.check_points.ensures in
     let both : Both c.args.v.now c.args.buoys.now c.args.extra.now c.args.extra_buoys.now = both_accepted _ _ _ _ _ number c.in_default.is in
     let whole = written_insert _ c.args.v.now c.args.buoys.now c.args.extra.now c.args.extra_buoys.now number c.args.closed c.args.out.now c.args.out_buoys.now
-    _ c.copy_run.last.1.1.1.0 c.insert_points-inserted.last.0 _ c.copy_buoys.last.1.1.1.0 c.insert_points-inserted.last.1.0 c.insert_points-inserted.result
+    _ c.copy_run.new.out c.insert_points-inserted.new.work _ c.copy_buoys.new.out c.insert_points-inserted.new.buoys c.insert_points-inserted.result
     _ _ _ c.in_default.is (omega (arith, both.vertices.at_most, c.copy_run.auto.out)) (omega (arith, both.vertices.at_most, c.copy_buoys.auto.out))
     c.copy_run.ensures c.copy_buoys.ensures c.insert_points-inserted.ensures.0 (c.hand_over.ensures.result_value, (c.hand_over.ensures.out_after, c.hand_over.ensures.out_buoys_after)) in
     record { result_value = whole.0; out_after = whole.1.0; out_buoys_after = whole.1.1 }

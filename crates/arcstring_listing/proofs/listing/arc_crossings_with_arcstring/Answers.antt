@@ -22,9 +22,6 @@ check_last-requires c = tt
 pub first_of-checked-requires : goal.first_of-checked-requires
 first_of-checked-requires c = tt
 
-pub enum_known-checked : goal.enum_known-checked
-enum_known-checked c = c.in-Refused.keys1
-
 pub returns-in-Refused : goal.returns-in-Refused
 unfolding leg_crossings
 returns-in-Refused c =
@@ -35,9 +32,6 @@ returns-in-Refused c =
     let whole = refused_leaves _ _ _ _ (refused_in_turn _ _ (leg_check _) (stored_check _ ∷ margin_check _ ∷ []) _ c.in-Refused.is
     number) in
     record { result_value = whole.0; points_after = whole.1.0; marks_after = whole.1.1 }
-
-pub enum_told-1 : goal.enum_told-1
-enum_told-1 c = c.in-Refused.keys2
 
 pub leg_string-a-requires : goal.leg_string-a-requires
 leg_string-a-requires c = tt

@@ -18,12 +18,6 @@ check_last-requires c = tt
 pub first_of-checked-requires : goal.first_of-checked-requires
 first_of-checked-requires c = tt
 
-pub enum_known-checked : goal.enum_known-checked
-enum_known-checked c = c.in-Refused.keys1
-
-pub enum_told-1 : goal.enum_told-1
-enum_told-1 c = c.in-Refused.keys2
-
 pub tally_two-requires : goal.tally_two-requires
 tally_two-requires c =
     let number : check_number c.first_of-checked.result ≡ first_of (stored_check c.args.a.now) (first_of (stored_check c.args.b.now) (margin_check c.args.margin)) = c.first_of-checked.ensures ∙ both_numbers c.check_stored.ensures c.check_last.ensures in

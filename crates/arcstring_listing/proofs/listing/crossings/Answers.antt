@@ -17,9 +17,6 @@ check_last-requires c = tt
 pub first_of-checked-requires : goal.first_of-checked-requires
 first_of-checked-requires c = tt
 
-pub enum_known-checked : goal.enum_known-checked
-enum_known-checked c = c.in-Refused.keys1
-
 pub returns-in-Refused : goal.returns-in-Refused
 unfolding crossings
 returns-in-Refused c =
@@ -30,9 +27,6 @@ returns-in-Refused c =
     let whole = refused_leaves _ _ _ _ (refused_in_turn _ _ (stored_check _) (stored_check _ ∷ margin_check _ ∷ []) _ c.in-Refused.is
     number) in
     record { result_value = whole.0; points_after = whole.1.0; marks_after = whole.1.1 }
-
-pub enum_told-1 : goal.enum_told-1
-enum_told-1 c = c.in-Refused.keys2
 
 pub list_two-requires : goal.list_two-requires
 list_two-requires c =

@@ -11,13 +11,13 @@ holds_all-requires c = c.requires
 
 pub visit_two-t-requires : goal.visit_two-t-requires
 visit_two-t-requires c =
-    let whole = (
-  c.requires,
-  c.holds_all.ensures
-      c.if-holds_all.true _, in
-    record { a_value = whole.0; b_closed_in_bounds = whole.1.0; b_closed_in_bounds_2 = whole.1.1 }
-
-)
+    record {
+      a_value = c.requires;
+      b_closed_in_bounds = (c.holds_all.ensures
+          c.if-holds_all.true _).0;
+      b_closed_in_bounds_2 = (c.holds_all.ensures
+          c.if-holds_all.true _).1;
+    }
 
 pub counts_of-requires : goal.counts_of-requires
 counts_of-requires c = tt
@@ -41,17 +41,11 @@ tally_two-t-requires c = c.requires
 pub check_buffers-room-requires : goal.check_buffers-room-requires
 check_buffers-room-requires c = c.tally_two-t.ensures.1
 
-pub enum_known-room : goal.enum_known-room
-enum_known-room c = c.in-Refused.keys1
-
 pub returns-in-Refused : goal.returns-in-Refused
 returns-in-Refused c =
     let whole = no_room_leaves _ _ (lists_plain _) _ c.tally_two-t.ensures.0 _ _ _
     c.check_buffers-room.ensures _ _ refl c.in-Refused.is in
     record { result_value = whole.0; points_after = whole.1.0; marks_after = whole.1.1 }
-
-pub enum_told-1 : goal.enum_told-1
-enum_told-1 c = c.in-Refused.keys2
 
 pub write_two-requires : goal.write_two-requires
 write_two-requires c =

@@ -21,9 +21,6 @@ check_stored-requires c = tt
 pub first_of-checked-requires : goal.first_of-checked-requires
 first_of-checked-requires c = tt
 
-pub enum_known-checked : goal.enum_known-checked
-enum_known-checked c = c.in-Refused.keys1
-
 pub returns-in-Refused : goal.returns-in-Refused
 unfolding same_side
 returns-in-Refused c =
@@ -31,9 +28,6 @@ returns-in-Refused c =
     ≡ first_of (leg_check (leg c.args.point_a c.args.point_b))
     (stored_check c.args.v.now) = c.first_of-checked.ensures ∙ both_numbers c.check_leg.ensures c.check_stored.ensures in
     refused_in_turn _ _ (leg_check _) (stored_check _ ∷ []) _ c.in-Refused.is number
-
-pub enum_told-1 : goal.enum_told-1
-enum_told-1 c = c.in-Refused.keys2
 
 pub tally_leg-t-requires : goal.tally_leg-t-requires
 tally_leg-t-requires c =

@@ -25,9 +25,9 @@ visit-requires c =
       b_len = (w.triples, c.leg_count-lb.ensures.1, w.at_most);
       a_value = never;
       room_if = record {
-            fits = λ o. room_at_start _ c.args.points.now c.args.marks.now
-                (room_of _ _ v c.args.points.now c.args.marks.now (c.requires.b_closed_in_bounds, c.requires.b_closed_in_bounds_2));
-          };
+        fits = λ o. room_at_start _ c.args.points.now c.args.marks.now
+            (room_of _ _ v c.args.points.now c.args.marks.now (c.requires.b_closed_in_bounds, c.requires.b_closed_in_bounds_2));
+      };
     }
 
 pub shape_of-points : goal.shape_of-points

@@ -39,16 +39,15 @@ returns-in_default c =
     }
 
 pub loop-i-preserved : goal.loop-i-preserved
-loop-i-preserved c =
-    (
-      omega arith,
-      left_stand c.args.n c.cut_at_mark-cut.result _ _ _ _ c.in-Pieces.is c.cut_at_mark-cut.ensures.left,
-      c.cut_at_mark-cut.auto.work ∙ c.loop-i.invariant.2,
-      c.cut_at_mark-cut.auto.buoys ∙ c.loop-i.invariant.3,
-      c.cut_at_mark-cut.auto.counts ∙ c.loop-i.invariant.4,
-      marks_on c.args.extra.now c.args.extra_buoys.now c.requires.1 c.loop-i.work c.loop-i.buoys c.loop-i.counts c.loop-i.m c.loop-i.i _ c.loop-i.invariant.5 _ c.cut_at_mark-cut.result _ _ _
-          c.loop-i-test.true c.numbered_at-x.ensures c.cut_at_mark-cut.ensures.counts_after _ c.in-Pieces.is,
-    )
+loop-i-preserved c = (
+  omega arith,
+  left_stand c.args.n c.cut_at_mark-cut.result _ _ _ _ c.in-Pieces.is c.cut_at_mark-cut.ensures.left,
+  c.cut_at_mark-cut.auto.work ∙ c.loop-i.invariant.2,
+  c.cut_at_mark-cut.auto.buoys ∙ c.loop-i.invariant.3,
+  c.cut_at_mark-cut.auto.counts ∙ c.loop-i.invariant.4,
+  marks_on c.args.extra.now c.args.extra_buoys.now c.requires.1 c.loop-i.work c.loop-i.buoys c.loop-i.counts c.loop-i.m c.loop-i.i _ c.loop-i.invariant.5 _ c.cut_at_mark-cut.result _ _ _
+      c.loop-i-test.true c.numbered_at-x.ensures c.cut_at_mark-cut.ensures.counts_after _ c.in-Pieces.is,
+)
 
 pub shape_of-work : goal.shape_of-work
 shape_of-work c = c.loop-i.invariant.2

@@ -54,22 +54,20 @@ overflow_sub-size c =
     omega (arith, room)
 
 pub first_leg-found-requires : goal.first_leg-found-requires
-first_leg-found-requires c =
-    (
-      part_length c.args.n c.args.m c.loop-k.work c.loop-k.buoys c.loop-k.counts c.args.x c.loop-k.invariant.2 c.loop-k.k _ c.loop-k.invariant.6 c.loop-k-test.true _ _ c.loop-k.at refl
-          c.loop-k.invariant.1 refl,
-      omega arith,
-    )
+first_leg-found-requires c = (
+  part_length c.args.n c.args.m c.loop-k.work c.loop-k.buoys c.loop-k.counts c.args.x c.loop-k.invariant.2 c.loop-k.k _ c.loop-k.invariant.6 c.loop-k-test.true _ _ c.loop-k.at refl
+      c.loop-k.invariant.1 refl,
+  omega arith,
+)
 
 pub cut_piece-requires : goal.cut_piece-requires
-cut_piece-requires c =
-    (
-      c.loop-k.invariant.2,
-      c.loop-k-test.true,
-      c.loop-k.invariant.1,
-      leg_inside c.args.n c.args.m c.loop-k.work c.loop-k.buoys c.loop-k.counts c.args.x c.loop-k.invariant.2 c.loop-k.k _ c.loop-k.invariant.6 c.loop-k-test.true _ _ c.loop-k.at refl
-          c.loop-k.invariant.1 refl _ c.first_leg-found.ensures _ c.in-At.is,
-    )
+cut_piece-requires c = (
+  c.loop-k.invariant.2,
+  c.loop-k-test.true,
+  c.loop-k.invariant.1,
+  leg_inside c.args.n c.args.m c.loop-k.work c.loop-k.buoys c.loop-k.counts c.args.x c.loop-k.invariant.2 c.loop-k.k _ c.loop-k.invariant.6 c.loop-k-test.true _ _ c.loop-k.at refl
+      c.loop-k.invariant.1 refl _ c.first_leg-found.ensures _ c.in-At.is,
+)
 
 pub shape_of-work-in-At : goal.shape_of-work-in-At
 shape_of-work-in-At c = c.cut_piece.auto.work ∙ c.loop-k.invariant.3
@@ -95,17 +93,16 @@ overflow_add-at c =
     omega (arith, room)
 
 pub loop-k-preserved : goal.loop-k-preserved
-loop-k-preserved c =
-    (
-      omega arith,
-      omega (arith, c.loop-k.invariant.1, sum-next c.loop-k.counts c.loop-k.k (omega (arith, c.loop-k.invariant.2.counts-room, few_pieces c.args.n c.args.m c.loop-k.work c.loop-k.buoys c.loop-k.counts c.loop-k.invariant.2))),
-      c.loop-k.invariant.2,
-      c.loop-k.invariant.3,
-      c.loop-k.invariant.4,
-      c.loop-k.invariant.5,
-      walk_on c.args.n c.args.m c.loop-k.work c.loop-k.buoys c.loop-k.counts c.args.x c.loop-k.invariant.2 c.loop-k.k _ c.loop-k.invariant.6 c.loop-k-test.true _ _ c.loop-k.at refl
-          c.loop-k.invariant.1 refl _ c.first_leg-found.ensures c.in_default.is,
-    )
+loop-k-preserved c = (
+  omega arith,
+  omega (arith, c.loop-k.invariant.1, sum-next c.loop-k.counts c.loop-k.k (omega (arith, c.loop-k.invariant.2.counts-room, few_pieces c.args.n c.args.m c.loop-k.work c.loop-k.buoys c.loop-k.counts c.loop-k.invariant.2))),
+  c.loop-k.invariant.2,
+  c.loop-k.invariant.3,
+  c.loop-k.invariant.4,
+  c.loop-k.invariant.5,
+  walk_on c.args.n c.args.m c.loop-k.work c.loop-k.buoys c.loop-k.counts c.args.x c.loop-k.invariant.2 c.loop-k.k _ c.loop-k.invariant.6 c.loop-k-test.true _ _ c.loop-k.at refl
+      c.loop-k.invariant.1 refl _ c.first_leg-found.ensures c.in_default.is,
+)
 
 pub shape_of-work : goal.shape_of-work
 shape_of-work c = c.loop-k.invariant.3

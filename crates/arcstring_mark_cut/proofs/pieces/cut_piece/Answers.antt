@@ -163,13 +163,13 @@ returns c =
       pieces = c.requires.0.pieces;
     } in
     let put = put_twice (c.args.at + c.args.i + 1) (c.args.n + 2 * (c.args.m - 1)) _ c.args.x (numbered (points c.args.work.now) c.args.buoys.now)
-    (numbered (points c.insert_numbered.last.0) c.insert_numbered.last.1.0) (numbered (points c.insert_numbered-2.last.0) c.insert_numbered-2.last.1.0) (sym known.all) c.insert_numbered.ensures c.insert_numbered-2.ensures in
+    (numbered (points c.insert_numbered.new.work) c.insert_numbered.new.buoys) (numbered (points c.insert_numbered-2.new.work) c.insert_numbered-2.new.buoys) (sym known.all) c.insert_numbered.ensures c.insert_numbered-2.ensures in
     let fits : sum (take c.args.m c.args.counts.now) + 2 ≤ most_points = omega (arith, c.if-total-gt-MOST_POINTS.false, known.all) in
     record {
       counts_after = one_more_lem c.args.n c.args.m c.args.work.now c.args.buoys.now c.args.counts.now c.requires.0 c.args.k c.requires.1 c.args.i c.args.x _ c.args.at c.requires.2
-          c.at_piece_end.ensures c.requires.3 c.if-at_piece_end.false fits c.insert_numbered-2.last.0 c.insert_numbered-2.last.1.0 c.replace_number.new.list _ refl put
+          c.at_piece_end.ensures c.requires.3 c.if-at_piece_end.false fits c.insert_numbered-2.new.work c.insert_numbered-2.new.buoys c.replace_number.new.list _ refl put
           c.replace_number.ensures;
       left = one_more_stands c.args.n c.args.m c.args.work.now c.args.buoys.now c.args.counts.now c.requires.0 c.args.k c.requires.1 c.args.i c.args.x _ c.args.at c.requires.2
-          c.at_piece_end.ensures c.requires.3 c.if-at_piece_end.false fits c.insert_numbered-2.last.0 c.insert_numbered-2.last.1.0 c.replace_number.new.list _ refl put
+          c.at_piece_end.ensures c.requires.3 c.if-at_piece_end.false fits c.insert_numbered-2.new.work c.insert_numbered-2.new.buoys c.replace_number.new.list _ refl put
           c.replace_number.ensures (c.insert_numbered-2.auto.work ∙ c.insert_numbered.auto.work) (c.insert_numbered-2.auto.buoys ∙ c.insert_numbered.auto.buoys) c.replace_number.auto.list;
     }

@@ -20,13 +20,12 @@ returns-then-out-l c =
     record { result_value = whole.0; out_after = whole.1 }
 
 pub put_midpoints-requires : goal.put_midpoints-requires
-put_midpoints-requires c =
-    (
-      accepted_triples _ c.args.v.now c.args.closed c.args.out.now c.check_midpoints-checked.ensures _ c.in_default.is
-          c.leg_count-l.ensures.0 c.leg_count-l.ensures.1,
-      c.leg_count-l.ensures.1,
-      c.if-out-l.false,
-    )
+put_midpoints-requires c = (
+  accepted_triples _ c.args.v.now c.args.closed c.args.out.now c.check_midpoints-checked.ensures _ c.in_default.is
+      c.leg_count-l.ensures.0 c.leg_count-l.ensures.1,
+  c.leg_count-l.ensures.1,
+  c.if-out-l.false,
+)
 
 pub returns : goal.returns
 returns c =

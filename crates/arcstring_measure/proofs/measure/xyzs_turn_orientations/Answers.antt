@@ -7,8 +7,7 @@ use Rattle.arcstring_measure.proofs.measure.xyzs_turn_orientations.Goals as goal
 
 pub put_turns-requires : goal.put_turns-requires
 put_turns-requires c =
-    let number = (c.first_of-checked.ensures ∙ both_numbers c.check_stored.ensures c.check_room.ensures) in
-    (
+    let number = (c.first_of-checked.ensures ∙ both_numbers c.check_stored.ensures c.check_room.ensures) in (
       turns_triples _ c.args.v.now c.args.closed c.args.out.now number c.in-Accepted.is,
       turns_room _ c.args.v.now c.args.closed
           c.args.out.now number c.in-Accepted.is,

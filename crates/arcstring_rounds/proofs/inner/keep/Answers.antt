@@ -1,7 +1,7 @@
 -- `keep` copies the first position and those that the walk keeps: what stands in `next` and what the walk still keeps is the whole. Assumes nothing.
+use mathlib.Core.Bool.{not}
 use mathlib.Core.Path.{◌≡◌, refl, ap, ◌∙◌}
 use mathlib.Core.List.{◌++◌, map}
-use mathlib.Core.Logic.{⊎_elim}
 use Prim.Native.Nat.{◌≤◌, ◌+◌, ◌-◌}
 use native.Mathlib.Omega.{arith}
 use lib.ListN.{length, take, drop, length-set}
@@ -9,6 +9,7 @@ use Rattle.arcstring.specs.Points.{point_at}
 use Rattle.arcstring_rounds.specs.Kept.{kept_from, kept_vertices}
 use Rattle.arcstring_rounds.proofs.inner.Keeps.{keep-start, pass_over, keep_on, keep_end}
 use Rattle.arcstring_rounds.proofs.inner.keep.Goals as goal
+use Rattle.arcstring_rounds.proofs.inner.keep.Goals.{then-not-unnecessary, else-not-unnecessary}
 
 pub loop-k-init : goal.loop-k-init
 loop-k-init c =
@@ -29,23 +30,24 @@ loop-k-preserved c =
     let size : length c.loop-k.next
     ≡ length c.args.next.now = simp length-set at c.loop-k.invariant.3 in
     let ps = map (point_at c.args.v.now) c.args.at.now in
-    ⊎_elim
-    (λ w. (
-      omega arith,
-      omega arith,
-      omega arith,
-      ap length w.2 ∙ simp length-set size,
-      keep_on 0 ps c.args.at.now c.loop-k.k c.args.skip _ c.loop-k.auto _ c.loop-k.next _ _ c.loop-k-test.true c.unnecessary.ensures c.loop-k.invariant.4 w.0.taken
-          (omega (arith, size)) w.2 w.3,
-    ))
-    (λ w. (
-      omega arith,
-      omega arith,
-      omega arith,
-      ap length w.1 ∙ c.loop-k.invariant.3,
-      pass_over 0 ps c.args.at.now c.loop-k.k c.args.skip _ c.loop-k.auto _ c.loop-k.next _ _ c.loop-k-test.true c.unnecessary.ensures c.loop-k.invariant.4 w.0.left w.1 w.2,
-    ))
-    c.if-not-unnecessary.branch
+    elim c.if-not-unnecessary.branch [
+      | then-not-unnecessary w ↦ (
+        omega arith,
+        omega arith,
+        omega arith,
+        ap length w.next-is ∙ simp length-set size,
+        keep_on 0 ps c.args.at.now c.loop-k.k c.args.skip _ c.loop-k.kept _ c.loop-k.next _ _ c.loop-k-test.true c.unnecessary.ensures c.loop-k.invariant.4
+            (ap not w.if-not-unnecessary.true) (omega (arith, size)) w.next-is w.kept-is,
+      )
+      | else-not-unnecessary w ↦ (
+        omega arith,
+        omega arith,
+        omega arith,
+        ap length w.next-is ∙ c.loop-k.invariant.3,
+        pass_over 0 ps c.args.at.now c.loop-k.k c.args.skip _ c.loop-k.kept _ c.loop-k.next _ _ c.loop-k-test.true c.unnecessary.ensures c.loop-k.invariant.4
+            (ap not w.if-not-unnecessary.false) w.next-is w.kept-is,
+      )
+    ]
 
 pub shape_of-next : goal.shape_of-next
 shape_of-next c = simp length-set at c.loop-k.invariant.3

@@ -1,4 +1,6 @@
 -- `round` leaves what one round leaves, or refuses where a removal lies past the end. Assumes nothing.
+use mathlib.Core.Path.{ap}
+use mathlib.Core.Bool.{not}
 use mathlib.Core.List.{map}
 use native.Mathlib.Omega.{arith}
 use lib.ListN.{length-map}
@@ -10,31 +12,28 @@ use Rattle.arcstring_rounds.proofs.inner.round.Goals as goal
 pub returns-then-not-closed : goal.returns-then-not-closed
 returns-then-not-closed c =
     let f = point_at c.args.v.now in
-    (left_of_open (map f c.args.at.now) c.args.at.now (length-map c.args.at.now f) c.requires.1 c.args.closed _ c.if-not-closed.true c.keep.ensures.1, c.keep.ensures.0)
+    (left_of_open (map f c.args.at.now) c.args.at.now (length-map c.args.at.now f) c.requires.1 c.args.closed _ (ap not c.if-not-closed.true) c.keep.ensures.1, c.keep.ensures.0)
 
 pub returns-then-not-unnecessary : goal.returns-then-not-unnecessary
 returns-then-not-unnecessary c =
-    let f = point_at c.args.v.now in
-    (
-      left_by_first (map f c.args.at.now) c.args.at.now (length-map c.args.at.now f) c.requires.1 c.args.closed c.if-not-closed.false _ c.unnecessary.ensures _
-          c.if-not-unnecessary.true c.keep-then-not-unnecessary.ensures.1,
+    let f = point_at c.args.v.now in (
+      left_by_first (map f c.args.at.now) c.args.at.now (length-map c.args.at.now f) c.requires.1 c.args.closed (ap not c.if-not-closed.false) _ c.unnecessary.ensures _
+          (ap not c.if-not-unnecessary.true) c.keep-then-not-unnecessary.ensures.1,
       c.keep-then-not-unnecessary.ensures.0,
     )
 
 pub returns-then-unnecessary : goal.returns-then-unnecessary
 returns-then-unnecessary c =
-    let f = point_at c.args.v.now in
-    (
-      left_past_end (map f c.args.at.now) c.args.at.now (length-map c.args.at.now f) c.requires.1 c.args.closed c.if-not-closed.false _ c.unnecessary.ensures
-          c.if-not-unnecessary.false _ c.unnecessary-2.ensures c.if-unnecessary.true,
+    let f = point_at c.args.v.now in (
+      left_past_end (map f c.args.at.now) c.args.at.now (length-map c.args.at.now f) c.requires.1 c.args.closed (ap not c.if-not-closed.false) _ c.unnecessary.ensures
+          (ap not c.if-not-unnecessary.false) _ c.unnecessary-2.ensures c.if-unnecessary.true,
       omega arith,
     )
 
 pub returns : goal.returns
 returns c =
-    let f = point_at c.args.v.now in
-    (
-      left_shifted (map f c.args.at.now) c.args.at.now (length-map c.args.at.now f) c.requires.1 c.args.closed c.if-not-closed.false _ c.unnecessary.ensures
-          c.if-not-unnecessary.false _ c.unnecessary-2.ensures _ c.if-unnecessary.false c.keep-2.ensures.1,
+    let f = point_at c.args.v.now in (
+      left_shifted (map f c.args.at.now) c.args.at.now (length-map c.args.at.now f) c.requires.1 c.args.closed (ap not c.if-not-closed.false) _ c.unnecessary.ensures
+          (ap not c.if-not-unnecessary.false) _ c.unnecessary-2.ensures _ c.if-unnecessary.false c.keep-2.ensures.1,
       c.keep-2.ensures.0,
     )

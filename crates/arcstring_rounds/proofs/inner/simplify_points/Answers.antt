@@ -54,7 +54,13 @@ slice_bounds-at-end c =
     omega (arith, room, size)
 
 pub slice_bounds-gather_vertices-end : goal.slice_bounds-gather_vertices-end
-slice_bounds-gather_vertices-end c = sym (length-take-le _ _ (array-share-prefix-at c))
+slice_bounds-gather_vertices-end c =
+    let size : length c.simplify_positions-left.new.at ≡ 1024 = c.simplify_positions-left.auto.at in
+    let few : c.in-Vertices.n
+    ≤ length c.args.v.now / 3 = held_at_most _ _ _ c.in-Vertices.is c.simplify_positions-left.ensures.1 in
+    let room : c.in-Vertices.n ≤ length c.simplify_positions-left.new.at = let accepted = points_accepted c.args.v.now c.args.closed c.args.out.now _ c.check_stored-checked.ensures c.in_default.is in
+    omega (arith, size, few, (stored_whole c.args.v.now accepted).at_most) in
+    sym (length-take-le _ _ (omega (arith, room, size)))
 
 pub gather_vertices-requires : goal.gather_vertices-requires
 gather_vertices-requires c =

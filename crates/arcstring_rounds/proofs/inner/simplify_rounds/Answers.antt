@@ -26,8 +26,7 @@ round-left-requires c =
 
 pub returns-in_default : goal.returns-in_default
 returns-in_default c =
-    let long : length (take c.loop-m.m c.loop-m.at) ≡ c.loop-m.m = length-take-le c.loop-m.m c.loop-m.at (omega arith) in
-    (
+    let long : length (take c.loop-m.m c.loop-m.at) ≡ c.loop-m.m = length-take-le c.loop-m.m c.loop-m.at (omega arith) in (
       refused_round (point_at c.args.v.now) c.args.closed c.loop-m.m c.loop-m.at _ _ _ (omega arith) (omega arith) c.round-left.ensures.0 c.loop-m.invariant.3 _
           c.in_default.is,
       omega (arith, long, c.round-left.ensures.1, c.loop-m.invariant.0),
@@ -36,8 +35,7 @@ returns-in_default c =
 pub returns-then-kept-m : goal.returns-then-kept-m
 returns-then-kept-m c =
     let long : length (take c.loop-m.m c.loop-m.at) ≡ c.loop-m.m = length-take-le c.loop-m.m c.loop-m.at (omega arith) in
-    let few : c.in-Vertices.kept ≤ c.loop-m.m = omega (arith, held_at_most _ _ _ c.in-Vertices.is c.round-left.ensures.1) in
-    (
+    let few : c.in-Vertices.kept ≤ c.loop-m.m = omega (arith, held_at_most _ _ _ c.in-Vertices.is c.round-left.ensures.1) in (
       last_round (point_at c.args.v.now) c.args.closed c.loop-m.m c.loop-m.at _ _ _ (omega arith) (omega arith) c.round-left.ensures.0 c.loop-m.invariant.3 _
           c.in-Vertices.is (omega (arith, few)) c.if-kept-m.true,
       c.loop-m.invariant.0,
@@ -58,8 +56,7 @@ loop-m-smaller c =
 pub loop-m-preserved : goal.loop-m-preserved
 loop-m-preserved c =
     let long : length (take c.loop-m.m c.loop-m.at) ≡ c.loop-m.m = length-take-le c.loop-m.m c.loop-m.at (omega arith) in
-    let few : c.in-Vertices.kept ≤ c.loop-m.m = omega (arith, held_at_most _ _ _ c.in-Vertices.is c.round-left.ensures.1) in
-    (
+    let few : c.in-Vertices.kept ≤ c.loop-m.m = omega (arith, held_at_most _ _ _ c.in-Vertices.is c.round-left.ensures.1) in (
       omega arith,
       c.copy_numbers.auto.at ∙ c.loop-m.invariant.1,
       c.round-left.auto.next ∙ c.loop-m.invariant.2,

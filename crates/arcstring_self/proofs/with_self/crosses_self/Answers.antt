@@ -15,15 +15,9 @@ use Rattle.arcstring_self.proofs.with_self.crosses_self.Goals as goal
 pub check_stored-checked-requires : goal.check_stored-checked-requires
 check_stored-checked-requires c = tt
 
-pub enum_known-checked : goal.enum_known-checked
-enum_known-checked c = c.in-Refused.keys1
-
 pub returns-in-Refused : goal.returns-in-Refused
 unfolding crosses_self
 returns-in-Refused c = answer_refused _ _ (stored_check _) _ c.in-Refused.is c.check_stored-checked.ensures
-
-pub enum_told-1 : goal.enum_told-1
-enum_told-1 c = c.in-Refused.keys2
 
 pub tally_self-t-requires : goal.tally_self-t-requires
 tally_self-t-requires c =

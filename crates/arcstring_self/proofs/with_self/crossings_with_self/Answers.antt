@@ -16,18 +16,12 @@ use Rattle.arcstring_self.proofs.with_self.crossings_with_self.Goals as goal
 pub check_last-checked-requires : goal.check_last-checked-requires
 check_last-checked-requires c = tt
 
-pub enum_known-checked : goal.enum_known-checked
-enum_known-checked c = c.in-Refused.keys1
-
 pub returns-in-Refused : goal.returns-in-Refused
 unfolding self_crossings
 returns-in-Refused c =
     let whole = refused_leaves _ _ _ _ (refused_in_turn _ _ (stored_check _) (margin_check _ ∷ []) _ c.in-Refused.is
     c.check_last-checked.ensures) in
     record { result_value = whole.0; points_after = whole.1.0; marks_after = whole.1.1 }
-
-pub enum_told-1 : goal.enum_told-1
-enum_told-1 c = c.in-Refused.keys2
 
 pub holds_self-requires : goal.holds_self-requires
 holds_self-requires c =
@@ -68,9 +62,6 @@ tally_self-t-requires c =
 pub check_buffers-room-requires : goal.check_buffers-room-requires
 check_buffers-room-requires c = c.tally_self-t.ensures.1
 
-pub enum_known-room : goal.enum_known-room
-enum_known-room c = c.in-Refused-room.keys1
-
 pub returns-in-Refused-room : goal.returns-in-Refused-room
 unfolding self_crossings
 returns-in-Refused-room c =
@@ -79,9 +70,6 @@ returns-in-Refused-room c =
     let whole = no_room_leaves _ _ (lists_normalized _) _ c.tally_self-t.ensures.0 _ _ _ c.check_buffers-room.ensures _ _
     (follows _) c.in-Refused-room.is in
     record { result_value = whole.0; points_after = whole.1.0; marks_after = whole.1.1 }
-
-pub enum_told-in_default-room : goal.enum_told-in_default-room
-enum_told-in_default-room c = c.in-Refused-room.keys2
 
 pub write_self-requires : goal.write_self-requires
 write_self-requires c =

@@ -30,9 +30,9 @@ visit-t-requires c =
       b_len = (w.triples, sub-le _ _, w.at_most);
       a_value = λ e. (refl, refl);
       room_if = record {
-            fits = λ o. room_at_start _ c.args.points.now c.args.marks.now
-                (room_of _ _ v c.args.points.now c.args.marks.now c.requires.false_in_bounds);
-          };
+        fits = λ o. room_at_start _ c.args.points.now c.args.marks.now
+            (room_of _ _ v c.args.points.now c.args.marks.now c.requires.false_in_bounds);
+      };
     }
 
 pub normalize_points-requires : goal.normalize_points-requires
@@ -58,6 +58,6 @@ returns c =
     record {
       value = count;
       points_after = normalized-in_place (self_pairs c.args.margin c.args.v.now false) _ _ _ _ (tally_kept _ _ count) w.0
-            c.normalize_points.ensures;
+          c.normalize_points.ensures;
       marks_after = w.1;
     }

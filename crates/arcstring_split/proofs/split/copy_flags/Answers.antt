@@ -13,12 +13,11 @@ pub loop-i-init : goal.loop-i-init
 loop-i-init c = (omega arith, refl, sym (splice_nothing _ _))
 
 pub loop-i-preserved : goal.loop-i-preserved
-loop-i-preserved c =
-    (
-      omega arith,
-      simp length-set c.loop-i.invariant.1,
-      flags_step c.args.list.now c.args.out.now _ c.loop-i.i _ (omega arith) (omega arith) c.loop-i.invariant.2 c.flag_byte.ensures,
-    )
+loop-i-preserved c = (
+  omega arith,
+  simp length-set c.loop-i.invariant.1,
+  flags_step c.args.list.now c.args.out.now _ c.loop-i.i _ (omega arith) (omega arith) c.loop-i.invariant.2 c.flag_byte.ensures,
+)
 
 pub shape_of-out : goal.shape_of-out
 shape_of-out c = c.loop-i.invariant.1

@@ -22,22 +22,20 @@ pub shape_of-work-in_default : goal.shape_of-work-in_default
 shape_of-work-in_default c = c.cut_legs-cut.auto.work ∙ c.loop-i.invariant.2
 
 pub returns-in_default : goal.returns-in_default
-returns-in_default c =
-    (
-      cuts_stop c.args.extra.now c.args.count c.requires.1 c.loop-i.work c.loop-i.m c.loop-i.i _ c.loop-i.invariant.3 _ _ _ c.loop-i-test.true
-          c.vertex_at.ensures c.cut_legs-cut.ensures.0 _ c.in_default.is,
-      c.cut_legs-cut.ensures.1,
-    )
+returns-in_default c = (
+  cuts_stop c.args.extra.now c.args.count c.requires.1 c.loop-i.work c.loop-i.m c.loop-i.i _ c.loop-i.invariant.3 _ _ _ c.loop-i-test.true
+      c.vertex_at.ensures c.cut_legs-cut.ensures.0 _ c.in_default.is,
+  c.cut_legs-cut.ensures.1,
+)
 
 pub loop-i-preserved : goal.loop-i-preserved
-loop-i-preserved c =
-    (
-      omega arith,
-      cut_at_most _ _ most_legs c.in-Pieces.is c.cut_legs-cut.ensures.1,
-      c.cut_legs-cut.auto.work ∙ c.loop-i.invariant.2,
-      cuts_on c.args.extra.now c.args.count c.requires.1 c.loop-i.work c.loop-i.m c.loop-i.i _ c.loop-i.invariant.3 _ _ _ c.loop-i-test.true
-          c.vertex_at.ensures c.cut_legs-cut.ensures.0 _ c.in-Pieces.is,
-    )
+loop-i-preserved c = (
+  omega arith,
+  cut_at_most _ _ most_legs c.in-Pieces.is c.cut_legs-cut.ensures.1,
+  c.cut_legs-cut.auto.work ∙ c.loop-i.invariant.2,
+  cuts_on c.args.extra.now c.args.count c.requires.1 c.loop-i.work c.loop-i.m c.loop-i.i _ c.loop-i.invariant.3 _ _ _ c.loop-i-test.true
+      c.vertex_at.ensures c.cut_legs-cut.ensures.0 _ c.in-Pieces.is,
+)
 
 pub shape_of-work : goal.shape_of-work
 shape_of-work c = c.loop-i.invariant.2

@@ -7,20 +7,18 @@ use Rattle.arcstring_split_leg.proofs.LegCuts.{place_uncut, place_full, place_cu
 use Rattle.arcstring_split_leg.proofs.cut_leg.cut_leg_at.Goals as goal
 
 pub returns-then-not-cuts_leg : goal.returns-then-not-cuts_leg
-returns-then-not-cuts_leg c =
-    (
-      place_uncut c.args.p c.args.work.now c.args.m c.args.k _ _ c.requires.0 (omega arith) c.leg_between.ensures c.cuts_leg.ensures
-          c.if-not-cuts_leg.true,
-      c.requires.1,
-    )
+returns-then-not-cuts_leg c = (
+  place_uncut c.args.p c.args.work.now c.args.m c.args.k _ _ c.requires.0 (omega arith) c.leg_between.ensures c.cuts_leg.ensures
+      c.if-not-cuts_leg.true,
+  c.requires.1,
+)
 
 pub returns-then-m-eq-MOST_LEGS : goal.returns-then-m-eq-MOST_LEGS
-returns-then-m-eq-MOST_LEGS c =
-    (
-      place_full c.args.p c.args.work.now c.args.m c.args.k _ _ c.requires.0 (omega arith) c.leg_between.ensures c.cuts_leg.ensures
-          c.if-not-cuts_leg.false c.if-m-eq-MOST_LEGS.true,
-      omega arith,
-    )
+returns-then-m-eq-MOST_LEGS c = (
+  place_full c.args.p c.args.work.now c.args.m c.args.k _ _ c.requires.0 (omega arith) c.leg_between.ensures c.cuts_leg.ensures
+      c.if-not-cuts_leg.false c.if-m-eq-MOST_LEGS.true,
+  omega arith,
+)
 
 pub returns : goal.returns
 returns c =

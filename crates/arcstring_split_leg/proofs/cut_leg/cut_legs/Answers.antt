@@ -17,12 +17,11 @@ pub shape_of-work-in_default : goal.shape_of-work-in_default
 shape_of-work-in_default c = c.cut_leg_at-cut.auto.work ∙ c.loop-k.invariant.3
 
 pub returns-in_default : goal.returns-in_default
-returns-in_default c =
-    (
-      places_stop c.args.p c.loop-k.work c.loop-k.longer c.args.m c.loop-k.k _ c.loop-k.invariant.4 _ _ c.loop-k-test.true c.cut_leg_at-cut.ensures.0 _
-          c.in_default.is,
-      c.cut_leg_at-cut.ensures.1,
-    )
+returns-in_default c = (
+  places_stop c.args.p c.loop-k.work c.loop-k.longer c.args.m c.loop-k.k _ c.loop-k.invariant.4 _ _ c.loop-k-test.true c.cut_leg_at-cut.ensures.0 _
+      c.in_default.is,
+  c.cut_leg_at-cut.ensures.1,
+)
 
 pub loop-k-preserved : goal.loop-k-preserved
 loop-k-preserved c =

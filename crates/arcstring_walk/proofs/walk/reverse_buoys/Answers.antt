@@ -12,12 +12,11 @@ pub loop-i-init : goal.loop-i-init
 loop-i-init c = (omega arith, refl, backwards_none 0 c.args.buoys.now _)
 
 pub loop-i-preserved : goal.loop-i-preserved
-loop-i-preserved c =
-    (
-      omega arith,
-      simp length-set c.loop-i.invariant.1,
-      backwards_step 0 c.args.buoys.now c.loop-i.i c.args.out.now _ (omega arith) (omega arith) c.loop-i.invariant.2,
-    )
+loop-i-preserved c = (
+  omega arith,
+  simp length-set c.loop-i.invariant.1,
+  backwards_step 0 c.args.buoys.now c.loop-i.i c.args.out.now _ (omega arith) (omega arith) c.loop-i.invariant.2,
+)
 
 pub shape_of-out : goal.shape_of-out
 shape_of-out c = c.loop-i.invariant.1

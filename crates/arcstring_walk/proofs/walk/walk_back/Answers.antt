@@ -20,12 +20,11 @@ returns-then-out-n c =
     record { result_value = whole.0; out_after = whole.1.0; out_buoys_after = whole.1.1 }
 
 pub reverse_vertices-requires : goal.reverse_vertices-requires
-reverse_vertices-requires c =
-    (
-      accepted_triples _ c.args.v.now c.args.out.now c.args.buoys.now c.args.out_buoys.now
-          c.check_string-checked.ensures c.in_default.is,
-      (both_fit _ _ _ c.if-out-n.false).0,
-    )
+reverse_vertices-requires c = (
+  accepted_triples _ c.args.v.now c.args.out.now c.args.buoys.now c.args.out_buoys.now
+      c.check_string-checked.ensures c.in_default.is,
+  (both_fit _ _ _ c.if-out-n.false).0,
+)
 
 pub reverse_buoys-requires : goal.reverse_buoys-requires
 reverse_buoys-requires c =

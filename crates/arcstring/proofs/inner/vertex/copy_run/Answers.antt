@@ -12,13 +12,12 @@ pub loop-i-init : goal.loop-i-init
 loop-i-init c = (omega arith, refl, sym (splice_nothing _ _))
 
 pub loop-i-preserved : goal.loop-i-preserved
-loop-i-preserved c =
-    (
-      omega arith,
-      c.put_vertex.auto.out ∙ c.loop-i.invariant.1,
-      copy_step _ c.args.from c.loop-i.i _ _ _ c.args.to _ (omega arith) (omega arith) c.loop-i.invariant.2
-          c.vertex_at.ensures c.put_vertex.ensures,
-    )
+loop-i-preserved c = (
+  omega arith,
+  c.put_vertex.auto.out ∙ c.loop-i.invariant.1,
+  copy_step _ c.args.from c.loop-i.i _ _ _ c.args.to _ (omega arith) (omega arith) c.loop-i.invariant.2
+      c.vertex_at.ensures c.put_vertex.ensures,
+)
 
 pub shape_of-out : goal.shape_of-out
 shape_of-out c = c.loop-i.invariant.1

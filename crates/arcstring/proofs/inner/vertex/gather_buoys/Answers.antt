@@ -20,12 +20,11 @@ pub bounds-buoys-k : goal.bounds-buoys-k
 bounds-buoys-k c = omega (arith, c.requires.0 c.loop-i.i (omega arith))
 
 pub loop-i-preserved : goal.loop-i-preserved
-loop-i-preserved c =
-    (
-      omega arith,
-      simp length-set c.loop-i.invariant.1,
-      gather_step (buoy_at c.args.buoys.now) c.args.at.now c.loop-i.i c.args.out.now _ (omega arith) (omega arith) c.loop-i.invariant.2,
-    )
+loop-i-preserved c = (
+  omega arith,
+  simp length-set c.loop-i.invariant.1,
+  gather_step (buoy_at c.args.buoys.now) c.args.at.now c.loop-i.i c.args.out.now _ (omega arith) (omega arith) c.loop-i.invariant.2,
+)
 
 pub shape_of-out : goal.shape_of-out
 shape_of-out c = c.loop-i.invariant.1

@@ -17,13 +17,12 @@ pub vertex_at-requires : goal.vertex_at-requires
 vertex_at-requires c = omega (arith, c.requires.0 c.loop-i.i (omega arith))
 
 pub loop-i-preserved : goal.loop-i-preserved
-loop-i-preserved c =
-    (
-      omega arith,
-      c.put_vertex.auto.out ∙ c.loop-i.invariant.1,
-      gather_vertex (point_at c.args.v.now) c.args.at.now c.loop-i.i c.args.out.now
-          _ _ _ (omega arith) c.loop-i.invariant.2 c.vertex_at.ensures c.put_vertex.ensures,
-    )
+loop-i-preserved c = (
+  omega arith,
+  c.put_vertex.auto.out ∙ c.loop-i.invariant.1,
+  gather_vertex (point_at c.args.v.now) c.args.at.now c.loop-i.i c.args.out.now
+      _ _ _ (omega arith) c.loop-i.invariant.2 c.vertex_at.ensures c.put_vertex.ensures,
+)
 
 pub shape_of-out : goal.shape_of-out
 shape_of-out c = c.loop-i.invariant.1

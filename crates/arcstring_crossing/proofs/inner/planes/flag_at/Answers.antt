@@ -7,12 +7,11 @@ use borrow.Author.Rules.{rules}
 use Rattle.arcstring_crossing.proofs.inner.planes.flag_at.Goals as goal
 
 pub returns-then-shows_apart : goal.returns-then-shows_apart
-returns-then-shows_apart c =
-    (
-      omega arith,
-      λ a x h p z. shows_apart_lem _ _ _ _ _ (c.shows_apart.ensures c.if-shows_apart.true)
-          ∙ read_class _ a x _ _ _ _ _ _ _ h p c.plane_at-other.ensures c.xyz_cross-t.ensures c.side_values-s.ensures,
-    )
+returns-then-shows_apart c = (
+  omega arith,
+  λ a x h p z. shows_apart_lem _ _ _ _ _ (c.shows_apart.ensures c.if-shows_apart.true)
+      ∙ read_class _ a x _ _ _ _ _ _ _ h p c.plane_at-other.ensures c.xyz_cross-t.ensures c.side_values-s.ensures,
+)
 
 pub returns-else-shows_apart : goal.returns-else-shows_apart
 returns-else-shows_apart c = (omega arith, λ a x h p z. absurd (omega arith))

@@ -19,15 +19,14 @@ pub overflow_add-found : goal.overflow_add-found
 overflow_add-found c = omega (arith, c.flag_at-f.ensures.0)
 
 pub loop-k-preserved : goal.loop-k-preserved
-loop-k-preserved c =
-    (
-      omega (arith, c.flag_at-f.ensures.0),
-      omega arith,
-      search rules,
-      aparts_next _ _ _ _ _ _ _ _ c.loop-k.invariant.3 c.flag_at-f.ensures.1,
-      flags_next _ _ _ _ _ _ _ _ (omega arith)
-          c.loop-k.invariant.4 c.flag_at-f.ensures.1,
-    )
+loop-k-preserved c = (
+  omega (arith, c.flag_at-f.ensures.0),
+  omega arith,
+  search rules,
+  aparts_next _ _ _ _ _ _ _ _ c.loop-k.invariant.3 c.flag_at-f.ensures.1,
+  flags_next _ _ _ _ _ _ _ _ (omega arith)
+      c.loop-k.invariant.4 c.flag_at-f.ensures.1,
+)
 
 pub returns : goal.returns
 returns c =

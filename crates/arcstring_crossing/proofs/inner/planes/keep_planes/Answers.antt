@@ -13,13 +13,12 @@ pub loop-k-init : goal.loop-k-init
 loop-k-init c = (search rules, omega arith, λ j h. absurd (omega arith))
 
 pub loop-k-preserved : goal.loop-k-preserved
-loop-k-preserved c =
-    (
-      search rules,
-      omega arith,
-      planes_next _ _ _ _ _ _ _ c.loop-k.invariant.2 (c.plane_of.ensures ∙ ap plane_of c.leg_at.ensures)
-          (c.put_plane.ensures.plane_at, c.put_plane.ensures.by_index),
-    )
+loop-k-preserved c = (
+  search rules,
+  omega arith,
+  planes_next _ _ _ _ _ _ _ c.loop-k.invariant.2 (c.plane_of.ensures ∙ ap plane_of c.leg_at.ensures)
+      (c.put_plane.ensures.plane_at, c.put_plane.ensures.by_index),
+)
 
 pub returns : goal.returns
 returns c =

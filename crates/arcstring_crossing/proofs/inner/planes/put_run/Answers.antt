@@ -39,7 +39,6 @@ bounds-planes-j-2 c =
   room_in_run c.args.planes.now c.args.width c.args.j c.args.k c.args.p c.requires.1 c.requires.0 1
       (omega arith),
   length-set c.args.planes.now (c.args.j * c.args.width + c.args.k) c.args.p.x,
-
 )
 
 pub overflow_add-planes-4 : goal.overflow_add-planes-4
@@ -63,7 +62,6 @@ bounds-planes-j-3 c =
   length-set c.args.planes.now (c.args.j * c.args.width + c.args.k) c.args.p.x,
   length-set
       (set c.args.planes.now (c.args.j * c.args.width + c.args.k) c.args.p.x) ((c.args.j + 1) * c.args.width + c.args.k) c.args.p.y,
-
 )
 
 pub shape_of-planes : goal.shape_of-planes

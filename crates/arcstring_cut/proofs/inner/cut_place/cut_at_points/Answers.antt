@@ -68,15 +68,14 @@ pub loop-i-smaller : goal.loop-i-smaller
 loop-i-smaller c = next_less _ _ c.loop-i-test.true
 
 pub loop-i-preserved : goal.loop-i-preserved
-loop-i-preserved c =
-    (
-      next-within _ _ c.loop-i-test.true,
-      c.cut_string-cut.auto.copy ∙ c.loop-i.invariant.1,
-      c.cut_string-cut.auto.copy_buoys ∙ c.loop-i.invariant.2,
-      counted_stand c.cut_string-cut.result _ _ _ _ _ c.in-Pieces.is c.cut_string-cut.ensures.stands,
-      points-step c.args.extra.now c.args.extra_buoys.now c.requires.1 _ c.loop-i.i _ c.loop-i.invariant.4 c.loop-i-test.true _ c.cut_string-cut.result _ _ _ _
-          c.numbered_at-x.ensures c.cut_string-cut.ensures.flags_after _ c.in-Pieces.is,
-    )
+loop-i-preserved c = (
+  next-within _ _ c.loop-i-test.true,
+  c.cut_string-cut.auto.copy ∙ c.loop-i.invariant.1,
+  c.cut_string-cut.auto.copy_buoys ∙ c.loop-i.invariant.2,
+  counted_stand c.cut_string-cut.result _ _ _ _ _ c.in-Pieces.is c.cut_string-cut.ensures.stands,
+  points-step c.args.extra.now c.args.extra_buoys.now c.requires.1 _ c.loop-i.i _ c.loop-i.invariant.4 c.loop-i-test.true _ c.cut_string-cut.result _ _ _ _
+      c.numbered_at-x.ensures c.cut_string-cut.ensures.flags_after _ c.in-Pieces.is,
+)
 
 pub shape_of-work : goal.shape_of-work
 shape_of-work c = (same_rooms c.loop-i.invariant.3 c.requires.0).0

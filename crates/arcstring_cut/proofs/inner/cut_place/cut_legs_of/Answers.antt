@@ -12,23 +12,21 @@ use Rattle.arcstring_cut.proofs.inner.cut_place.CutWalks.{Walks, walk_start, wal
 use Rattle.arcstring_cut.proofs.inner.cut_place.cut_legs_of.Goals as goal
 
 pub loop-i-init : goal.loop-i-init
-loop-i-init c =
-    (
-      refl,
-      walk_start (leg_step c.args.x c.args.copy.now c.args.copy_buoys.now c.args.k) c.args.m c.args.legs c.args.work.now c.args.buoys.now c.args.counts.now
-          c.args.flags.now c.requires.5,
-    )
+loop-i-init c = (
+  refl,
+  walk_start (leg_step c.args.x c.args.copy.now c.args.copy_buoys.now c.args.k) c.args.m c.args.legs c.args.work.now c.args.buoys.now c.args.counts.now
+      c.args.flags.now c.requires.5,
+)
 
 pub loop-i-smaller-then-not-along_leg_at : goal.loop-i-smaller-then-not-along_leg_at
 loop-i-smaller-then-not-along_leg_at c = next_less _ _ c.loop-i-test.true
 
 pub loop-i-preserved-then-not-along_leg_at : goal.loop-i-preserved-then-not-along_leg_at
-loop-i-preserved-then-not-along_leg_at c =
-    (
-      c.loop-i.invariant.0,
-      leg_off c.args.x c.args.copy.now c.args.copy_buoys.now c.args.k c.loop-i.i _ c.requires.0 (omega arith) c.along_leg_at.ensures
-          c.args.m c.args.legs c.loop-i.work c.loop-i.buoys c.loop-i.counts c.loop-i.flags _ c.loop-i.more (omega arith) c.loop-i.invariant.1 c.if-not-along_leg_at.true,
-    )
+loop-i-preserved-then-not-along_leg_at c = (
+  c.loop-i.invariant.0,
+  leg_off c.args.x c.args.copy.now c.args.copy_buoys.now c.args.k c.loop-i.i _ c.requires.0 (omega arith) c.along_leg_at.ensures
+      c.args.m c.args.legs c.loop-i.work c.loop-i.buoys c.loop-i.counts c.loop-i.flags _ c.loop-i.more (omega arith) c.loop-i.invariant.1 c.if-not-along_leg_at.true,
+)
 
 pub cut_at-cut-requires : goal.cut_at-cut-requires
 cut_at-cut-requires c =

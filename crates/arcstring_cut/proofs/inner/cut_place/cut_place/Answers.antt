@@ -91,8 +91,8 @@ pub returns : goal.returns
 returns c =
     record {
       flags_after = place_walk c.args.work.now c.args.buoys.now c.args.counts.now c.args.flags.now c.args.m c.requires.2 c.args.k c.requires.0 c.args.at c.requires.1
-          c.args.x c.args.copy.now c.copy_run.last.1.1.1.0 c.args.copy_buoys.now c.copy_buoys.last.1.1.1.0 c.leg_count-legs.result c.cut_legs_of.result
-          c.cut_legs_of.last.1.1.1.1.0 c.cut_legs_of.last.1.1.1.1.1.0 c.cut_legs_of.last.1.1.1.1.1.1.0 c.cut_legs_of.last.1.1.1.1.1.1.1.0
+          c.args.x c.args.copy.now c.copy_run.new.out c.args.copy_buoys.now c.copy_buoys.new.out c.leg_count-legs.result c.cut_legs_of.result
+          c.cut_legs_of.new.work c.cut_legs_of.new.buoys c.cut_legs_of.new.counts c.cut_legs_of.new.flags
           c.copy_run.ensures c.copy_buoys.ensures c.leg_count-legs.ensures.0 c.cut_legs_of.ensures.flags_after;
       stands = c.cut_legs_of.ensures.stands;
     }

@@ -17,14 +17,13 @@ use Rattle.arcstring_cut.proofs.inner.cut_place.CutPlaces.{place_step, string_wa
 use Rattle.arcstring_cut.proofs.inner.cut_place.cut_string.Goals as goal
 
 pub loop-k-init : goal.loop-k-init
-loop-k-init c =
-    (
-      walk_start (cut_place place_of built_numbered c.args.x) c.args.m c.args.m c.args.work.now c.args.buoys.now c.args.counts.now c.args.flags.now c.requires.0,
-      omega arith,
-      refl,
-      c.requires.1,
-      c.requires.2,
-    )
+loop-k-init c = (
+  walk_start (cut_place place_of built_numbered c.args.x) c.args.m c.args.m c.args.work.now c.args.buoys.now c.args.counts.now c.args.flags.now c.requires.0,
+  omega arith,
+  refl,
+  c.requires.1,
+  c.requires.2,
+)
 
 pub cut_place-cut-requires : goal.cut_place-cut-requires
 cut_place-cut-requires c = (omega arith, c.loop-k.invariant.2, c.loop-k.invariant.0.stands, c.loop-k.invariant.3, c.loop-k.invariant.4)
@@ -78,12 +77,12 @@ bounds-counts-k c =
 
 pub overflow_add-at : goal.overflow_add-at
 overflow_add-at c =
-    let step : let end = c.loop-k.at + get_or c.cut_place-cut.last.1.1.0 c.loop-k.k 0 in
-    (end ≤ most_points) × (end ≡ sum (take (c.loop-k.k + 1) c.cut_place-cut.last.1.1.0))
+    let step : let end = c.loop-k.at + get_or c.cut_place-cut.new.counts c.loop-k.k 0 in
+    (end ≤ most_points) × (end ≡ sum (take (c.loop-k.k + 1) c.cut_place-cut.new.counts))
     × Walks (cut_place place_of built_numbered c.args.x)
     (for_positions (cut_place place_of built_numbered c.args.x) 0 c.args.m (first_pieces c.args.m c.args.work.now c.args.buoys.now c.args.counts.now c.args.flags.now))
-    c.args.m c.args.m (c.loop-k.k + 1) c.in-Pieces.count c.cut_place-cut.last.0 c.cut_place-cut.last.1.0 c.cut_place-cut.last.1.1.0 c.cut_place-cut.last.1.1.1.0 = place_step c.args.x c.args.m c.loop-k.work c.loop-k.buoys c.loop-k.counts c.loop-k.flags _ c.loop-k.k c.loop-k.more c.loop-k.at c.loop-k.invariant.0 c.cut_place-cut.result c.cut_place-cut.last.0 c.cut_place-cut.last.1.0
-    c.cut_place-cut.last.1.1.0 c.cut_place-cut.last.1.1.1.0 c.loop-k-test.true c.cut_place-cut.ensures.flags_after _ c.in-Pieces.is c.cut_place-cut.ensures.stands.0 c.loop-k.invariant.2
+    c.args.m c.args.m (c.loop-k.k + 1) c.in-Pieces.count c.cut_place-cut.new.work c.cut_place-cut.new.buoys c.cut_place-cut.new.counts c.cut_place-cut.new.flags = place_step c.args.x c.args.m c.loop-k.work c.loop-k.buoys c.loop-k.counts c.loop-k.flags _ c.loop-k.k c.loop-k.more c.loop-k.at c.loop-k.invariant.0 c.cut_place-cut.result c.cut_place-cut.new.work c.cut_place-cut.new.buoys
+    c.cut_place-cut.new.counts c.cut_place-cut.new.flags c.loop-k-test.true c.cut_place-cut.ensures.flags_after _ c.in-Pieces.is c.cut_place-cut.ensures.stands.0 c.loop-k.invariant.2
     c.cut_place-cut.ensures.stands.1 in
     points_fit _ step.0
 
@@ -95,14 +94,13 @@ loop-k-smaller c = next_less _ _ c.loop-k-test.true
 
 pub loop-k-preserved : goal.loop-k-preserved
 loop-k-preserved c =
-    let step : let end = c.loop-k.at + get_or c.cut_place-cut.last.1.1.0 c.loop-k.k 0 in
-    (end ≤ most_points) × (end ≡ sum (take (c.loop-k.k + 1) c.cut_place-cut.last.1.1.0))
+    let step : let end = c.loop-k.at + get_or c.cut_place-cut.new.counts c.loop-k.k 0 in
+    (end ≤ most_points) × (end ≡ sum (take (c.loop-k.k + 1) c.cut_place-cut.new.counts))
     × Walks (cut_place place_of built_numbered c.args.x)
     (for_positions (cut_place place_of built_numbered c.args.x) 0 c.args.m (first_pieces c.args.m c.args.work.now c.args.buoys.now c.args.counts.now c.args.flags.now))
-    c.args.m c.args.m (c.loop-k.k + 1) c.in-Pieces.count c.cut_place-cut.last.0 c.cut_place-cut.last.1.0 c.cut_place-cut.last.1.1.0 c.cut_place-cut.last.1.1.1.0 = place_step c.args.x c.args.m c.loop-k.work c.loop-k.buoys c.loop-k.counts c.loop-k.flags _ c.loop-k.k c.loop-k.more c.loop-k.at c.loop-k.invariant.0 c.cut_place-cut.result c.cut_place-cut.last.0 c.cut_place-cut.last.1.0
-    c.cut_place-cut.last.1.1.0 c.cut_place-cut.last.1.1.1.0 c.loop-k-test.true c.cut_place-cut.ensures.flags_after _ c.in-Pieces.is c.cut_place-cut.ensures.stands.0 c.loop-k.invariant.2
-    c.cut_place-cut.ensures.stands.1 in
-    (
+    c.args.m c.args.m (c.loop-k.k + 1) c.in-Pieces.count c.cut_place-cut.new.work c.cut_place-cut.new.buoys c.cut_place-cut.new.counts c.cut_place-cut.new.flags = place_step c.args.x c.args.m c.loop-k.work c.loop-k.buoys c.loop-k.counts c.loop-k.flags _ c.loop-k.k c.loop-k.more c.loop-k.at c.loop-k.invariant.0 c.cut_place-cut.result c.cut_place-cut.new.work c.cut_place-cut.new.buoys
+    c.cut_place-cut.new.counts c.cut_place-cut.new.flags c.loop-k-test.true c.cut_place-cut.ensures.flags_after _ c.in-Pieces.is c.cut_place-cut.ensures.stands.0 c.loop-k.invariant.2
+    c.cut_place-cut.ensures.stands.1 in (
       step.2,
       next-within _ _ c.loop-k-test.true,
       step.1,

@@ -17,7 +17,7 @@ shape_of-out_buoys-then-i-n c = c.copy_buoys.auto.out ∙ length-set c.args.out_
 pub returns-then-i-n : goal.returns-then-i-n
 returns-then-i-n c =
     let many = rest_many _ _ c.requires.1 c.if-i-n.true in (
-      second_written c.args.v.now c.args.buoys.now c.args.i c.args.x c.requires.0 c.requires.1 c.args.out.now c.put_vertex.last.0 c.copy_run.last.1.1.1.0
+      second_written c.args.v.now c.args.buoys.now c.args.i c.args.x c.requires.0 c.requires.1 c.args.out.now c.put_vertex.new.out c.copy_run.new.out
           c.args.out_buoys.now c.copy_buoys.new.out (some_room _ _ c.requires.3) c.put_vertex.ensures c.if-i-n.true
           c.copy_run.ensures c.copy_buoys.ensures,
       many.0,
@@ -31,10 +31,9 @@ pub shape_of-out_buoys : goal.shape_of-out_buoys
 shape_of-out_buoys c = omega (arith, length-set c.args.out_buoys.now 0 c.args.x.buoy)
 
 pub returns : goal.returns
-returns c =
-    (
-      second_closing c.args.v.now c.args.buoys.now c.args.i c.args.x c.requires.0 c.requires.1 _ _ _ c.args.out_buoys.now _ (omega arith)
-          c.put_vertex.ensures (omega arith) c.copy_run-2.ensures c.copy_buoys-2.ensures,
-      omega arith,
-      omega arith,
-    )
+returns c = (
+  second_closing c.args.v.now c.args.buoys.now c.args.i c.args.x c.requires.0 c.requires.1 _ _ _ c.args.out_buoys.now _ (omega arith)
+      c.put_vertex.ensures (omega arith) c.copy_run-2.ensures c.copy_buoys-2.ensures,
+  omega arith,
+  omega arith,
+)

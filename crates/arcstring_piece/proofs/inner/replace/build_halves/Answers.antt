@@ -13,8 +13,6 @@ use Rattle.arcstring_piece.proofs.inner.replace.HalfRooms.{float_bytes_fit, buoy
 use Rattle.arcstring_piece.proofs.inner.replace.HalfRooms.{read_rooms, built_few}
 use Rattle.arcstring_piece.proofs.inner.replace.build_halves.Goals as goal
 
-)
-
 pub slice_bounds-build_piece-end : goal.slice_bounds-build_piece-end
 slice_bounds-build_piece-end c =
     let first-from : (2 ≤ c.args.i + 2) × (c.args.i + 2 ≤ most_points + 1) = first_read c.args.i _ c.requires.1 c.requires.2 in
@@ -48,9 +46,10 @@ pub overflow_mul-end-2 : goal.overflow_mul-end-2
 overflow_mul-end-2 c =
     let second-few : (c.second_points-count.result ≤ most_points + 1) × (length c.second_points-count.new.out ≡ 3 * read_room)
     × (length c.second_points-count.new.out_buoys ≡ read_room) = (
-  second_read c.second_points-count.result _ c.second_points-count.ensures.2 c.requires.2,
-  c.second_points-count.auto.out ∙ c.first_points.auto.out,
-  c.second_points-count.auto.out_buoys ∙ c.first_points.auto.out_buoys, in
+      second_read c.second_points-count.result _ c.second_points-count.ensures.2 c.requires.2,
+      c.second_points-count.auto.out ∙ c.first_points.auto.out,
+      c.second_points-count.auto.out_buoys ∙ c.first_points.auto.out_buoys,
+    ) in
     floats_fit _ second-few.0
 
 pub overflow_mul-start : goal.overflow_mul-start
@@ -58,7 +57,7 @@ overflow_mul-start c =
     let first-from : (2 ≤ c.args.i + 2) × (c.args.i + 2 ≤ most_points + 1) = first_read c.args.i _ c.requires.1 c.requires.2 in
     let first-few : (c.build_piece-first.result.count ≤ most_points + 1) × (length c.build_piece-first.new.out ≡ 3 * built_room)
     × (length c.build_piece-first.new.out_buoys ≡ built_room) = (
-      built_few c.first_points.last.1.1.1.1.1.0 (c.args.i + 2) _ first-from.1 c.build_piece-first.ensures.count_value.3,
+      built_few c.first_points.new.out_buoys (c.args.i + 2) _ first-from.1 c.build_piece-first.ensures.count_value.3,
       c.build_piece-first.auto.out ∙ c.requires.3,
       c.build_piece-first.auto.out_buoys ∙ c.requires.4,
     ) in
@@ -68,9 +67,10 @@ pub slice_bounds-from-end-2 : goal.slice_bounds-from-end-2
 slice_bounds-from-end-2 c =
     let second-few : (c.second_points-count.result ≤ most_points + 1) × (length c.second_points-count.new.out ≡ 3 * read_room)
     × (length c.second_points-count.new.out_buoys ≡ read_room) = (
-  second_read c.second_points-count.result _ c.second_points-count.ensures.2 c.requires.2,
-  c.second_points-count.auto.out ∙ c.first_points.auto.out,
-  c.second_points-count.auto.out_buoys ∙ c.first_points.auto.out_buoys, in
+      second_read c.second_points-count.result _ c.second_points-count.ensures.2 c.requires.2,
+      c.second_points-count.auto.out ∙ c.first_points.auto.out,
+      c.second_points-count.auto.out_buoys ∙ c.first_points.auto.out_buoys,
+    ) in
     let few = second-few in
     float_end c.second_points-count.new.out c.second_points-count.new.out_buoys _ few.0 few.1 few.2
 
@@ -78,9 +78,10 @@ pub slice_bounds-build_piece-end-3 : goal.slice_bounds-build_piece-end-3
 slice_bounds-build_piece-end-3 c =
     let second-few : (c.second_points-count.result ≤ most_points + 1) × (length c.second_points-count.new.out ≡ 3 * read_room)
     × (length c.second_points-count.new.out_buoys ≡ read_room) = (
-  second_read c.second_points-count.result _ c.second_points-count.ensures.2 c.requires.2,
-  c.second_points-count.auto.out ∙ c.first_points.auto.out,
-  c.second_points-count.auto.out_buoys ∙ c.first_points.auto.out_buoys, in
+      second_read c.second_points-count.result _ c.second_points-count.ensures.2 c.requires.2,
+      c.second_points-count.auto.out ∙ c.first_points.auto.out,
+      c.second_points-count.auto.out_buoys ∙ c.first_points.auto.out_buoys,
+    ) in
     let few = second-few in
     float_prefix c.second_points-count.new.out c.second_points-count.new.out_buoys _ few.0 few.1 few.2
 
@@ -88,9 +89,10 @@ pub slice_bounds-numbers-end-2 : goal.slice_bounds-numbers-end-2
 slice_bounds-numbers-end-2 c =
     let second-few : (c.second_points-count.result ≤ most_points + 1) × (length c.second_points-count.new.out ≡ 3 * read_room)
     × (length c.second_points-count.new.out_buoys ≡ read_room) = (
-  second_read c.second_points-count.result _ c.second_points-count.ensures.2 c.requires.2,
-  c.second_points-count.auto.out ∙ c.first_points.auto.out,
-  c.second_points-count.auto.out_buoys ∙ c.first_points.auto.out_buoys, in
+      second_read c.second_points-count.result _ c.second_points-count.ensures.2 c.requires.2,
+      c.second_points-count.auto.out ∙ c.first_points.auto.out,
+      c.second_points-count.auto.out_buoys ∙ c.first_points.auto.out_buoys,
+    ) in
     let few = second-few in
     buoy_end c.second_points-count.new.out c.second_points-count.new.out_buoys _ few.0 few.1 few.2
 
@@ -98,9 +100,10 @@ pub slice_bounds-build_piece-end-4 : goal.slice_bounds-build_piece-end-4
 slice_bounds-build_piece-end-4 c =
     let second-few : (c.second_points-count.result ≤ most_points + 1) × (length c.second_points-count.new.out ≡ 3 * read_room)
     × (length c.second_points-count.new.out_buoys ≡ read_room) = (
-  second_read c.second_points-count.result _ c.second_points-count.ensures.2 c.requires.2,
-  c.second_points-count.auto.out ∙ c.first_points.auto.out,
-  c.second_points-count.auto.out_buoys ∙ c.first_points.auto.out_buoys, in
+      second_read c.second_points-count.result _ c.second_points-count.ensures.2 c.requires.2,
+      c.second_points-count.auto.out ∙ c.first_points.auto.out,
+      c.second_points-count.auto.out_buoys ∙ c.first_points.auto.out_buoys,
+    ) in
     let few = second-few in
     buoy_prefix c.second_points-count.new.out c.second_points-count.new.out_buoys _ few.0 few.1 few.2
 
@@ -109,7 +112,7 @@ offset_bounds-out-start c =
     let first-from : (2 ≤ c.args.i + 2) × (c.args.i + 2 ≤ most_points + 1) = first_read c.args.i _ c.requires.1 c.requires.2 in
     let first-few : (c.build_piece-first.result.count ≤ most_points + 1) × (length c.build_piece-first.new.out ≡ 3 * built_room)
     × (length c.build_piece-first.new.out_buoys ≡ built_room) = (
-      built_few c.first_points.last.1.1.1.1.1.0 (c.args.i + 2) _ first-from.1 c.build_piece-first.ensures.count_value.3,
+      built_few c.first_points.new.out_buoys (c.args.i + 2) _ first-from.1 c.build_piece-first.ensures.count_value.3,
       c.build_piece-first.auto.out ∙ c.requires.3,
       c.build_piece-first.auto.out_buoys ∙ c.requires.4,
     ) in
@@ -120,7 +123,7 @@ slice_bounds-build_piece-count c =
     let first-from : (2 ≤ c.args.i + 2) × (c.args.i + 2 ≤ most_points + 1) = first_read c.args.i _ c.requires.1 c.requires.2 in
     let first-few : (c.build_piece-first.result.count ≤ most_points + 1) × (length c.build_piece-first.new.out ≡ 3 * built_room)
     × (length c.build_piece-first.new.out_buoys ≡ built_room) = (
-      built_few c.first_points.last.1.1.1.1.1.0 (c.args.i + 2) _ first-from.1 c.build_piece-first.ensures.count_value.3,
+      built_few c.first_points.new.out_buoys (c.args.i + 2) _ first-from.1 c.build_piece-first.ensures.count_value.3,
       c.build_piece-first.auto.out ∙ c.requires.3,
       c.build_piece-first.auto.out_buoys ∙ c.requires.4,
     ) in
@@ -131,7 +134,7 @@ slice_bounds-build_piece-start c =
     let first-from : (2 ≤ c.args.i + 2) × (c.args.i + 2 ≤ most_points + 1) = first_read c.args.i _ c.requires.1 c.requires.2 in
     let first-few : (c.build_piece-first.result.count ≤ most_points + 1) × (length c.build_piece-first.new.out ≡ 3 * built_room)
     × (length c.build_piece-first.new.out_buoys ≡ built_room) = (
-      built_few c.first_points.last.1.1.1.1.1.0 (c.args.i + 2) _ first-from.1 c.build_piece-first.ensures.count_value.3,
+      built_few c.first_points.new.out_buoys (c.args.i + 2) _ first-from.1 c.build_piece-first.ensures.count_value.3,
       c.build_piece-first.auto.out ∙ c.requires.3,
       c.build_piece-first.auto.out_buoys ∙ c.requires.4,
     ) in
@@ -142,7 +145,7 @@ offset_bounds-out_buoys-at c =
     let first-from : (2 ≤ c.args.i + 2) × (c.args.i + 2 ≤ most_points + 1) = first_read c.args.i _ c.requires.1 c.requires.2 in
     let first-few : (c.build_piece-first.result.count ≤ most_points + 1) × (length c.build_piece-first.new.out ≡ 3 * built_room)
     × (length c.build_piece-first.new.out_buoys ≡ built_room) = (
-      built_few c.first_points.last.1.1.1.1.1.0 (c.args.i + 2) _ first-from.1 c.build_piece-first.ensures.count_value.3,
+      built_few c.first_points.new.out_buoys (c.args.i + 2) _ first-from.1 c.build_piece-first.ensures.count_value.3,
       c.build_piece-first.auto.out ∙ c.requires.3,
       c.build_piece-first.auto.out_buoys ∙ c.requires.4,
     ) in
@@ -153,7 +156,7 @@ slice_bounds-build_piece-count-2 c =
     let first-from : (2 ≤ c.args.i + 2) × (c.args.i + 2 ≤ most_points + 1) = first_read c.args.i _ c.requires.1 c.requires.2 in
     let first-few : (c.build_piece-first.result.count ≤ most_points + 1) × (length c.build_piece-first.new.out ≡ 3 * built_room)
     × (length c.build_piece-first.new.out_buoys ≡ built_room) = (
-      built_few c.first_points.last.1.1.1.1.1.0 (c.args.i + 2) _ first-from.1 c.build_piece-first.ensures.count_value.3,
+      built_few c.first_points.new.out_buoys (c.args.i + 2) _ first-from.1 c.build_piece-first.ensures.count_value.3,
       c.build_piece-first.auto.out ∙ c.requires.3,
       c.build_piece-first.auto.out_buoys ∙ c.requires.4,
     ) in
@@ -164,7 +167,7 @@ slice_bounds-build_piece-start-2 c =
     let first-from : (2 ≤ c.args.i + 2) × (c.args.i + 2 ≤ most_points + 1) = first_read c.args.i _ c.requires.1 c.requires.2 in
     let first-few : (c.build_piece-first.result.count ≤ most_points + 1) × (length c.build_piece-first.new.out ≡ 3 * built_room)
     × (length c.build_piece-first.new.out_buoys ≡ built_room) = (
-      built_few c.first_points.last.1.1.1.1.1.0 (c.args.i + 2) _ first-from.1 c.build_piece-first.ensures.count_value.3,
+      built_few c.first_points.new.out_buoys (c.args.i + 2) _ first-from.1 c.build_piece-first.ensures.count_value.3,
       c.build_piece-first.auto.out ∙ c.requires.3,
       c.build_piece-first.auto.out_buoys ∙ c.requires.4,
     ) in
@@ -175,18 +178,19 @@ build_piece-second-requires c =
     let first-from : (2 ≤ c.args.i + 2) × (c.args.i + 2 ≤ most_points + 1) = first_read c.args.i _ c.requires.1 c.requires.2 in
     let first-few : (c.build_piece-first.result.count ≤ most_points + 1) × (length c.build_piece-first.new.out ≡ 3 * built_room)
     × (length c.build_piece-first.new.out_buoys ≡ built_room) = (
-      built_few c.first_points.last.1.1.1.1.1.0 (c.args.i + 2) _ first-from.1 c.build_piece-first.ensures.count_value.3,
+      built_few c.first_points.new.out_buoys (c.args.i + 2) _ first-from.1 c.build_piece-first.ensures.count_value.3,
       c.build_piece-first.auto.out ∙ c.requires.3,
       c.build_piece-first.auto.out_buoys ∙ c.requires.4,
     ) in
     let second-few : (c.second_points-count.result ≤ most_points + 1) × (length c.second_points-count.new.out ≡ 3 * read_room)
     × (length c.second_points-count.new.out_buoys ≡ read_room) = (
-  second_read c.second_points-count.result _ c.second_points-count.ensures.2 c.requires.2,
-  c.second_points-count.auto.out ∙ c.first_points.auto.out,
-  c.second_points-count.auto.out_buoys ∙ c.first_points.auto.out_buoys, in
+      second_read c.second_points-count.result _ c.second_points-count.ensures.2 c.requires.2,
+      c.second_points-count.auto.out ∙ c.first_points.auto.out,
+      c.second_points-count.auto.out_buoys ∙ c.first_points.auto.out_buoys,
+    ) in
     let most = first-few in
     let few = second-few in
-    second_room c.second_points-count.new.out c.second_points-count.new.out_buoys c.second_points-count.result few.0 few.1 few.2 c.build_piece-first.last.1.1.0 c.build_piece-first.last.1.1.1.0 _ c.second_points-count.ensures.1 most.0
+    second_room c.second_points-count.new.out c.second_points-count.new.out_buoys c.second_points-count.result few.0 few.1 few.2 c.build_piece-first.new.out c.build_piece-first.new.out_buoys _ c.second_points-count.ensures.1 most.0
     most.1 most.2
 
 pub shape_of-out : goal.shape_of-out
@@ -198,15 +202,16 @@ shape_of-out_buoys c = c.out_buoys-2-1.given.1 ∙ c.build_piece-first.auto.out_
 pub returns : goal.returns
 returns c =
     let first-from : (2 ≤ c.args.i + 2) × (c.args.i + 2 ≤ most_points + 1) = first_read c.args.i _ c.requires.1 c.requires.2 in
-    let whole = let second-few : (c.second_points-count.result ≤ most_points + 1) × (length c.second_points-count.new.out ≡ 3 * read_room)
+    let second-few : (c.second_points-count.result ≤ most_points + 1) × (length c.second_points-count.new.out ≡ 3 * read_room)
     × (length c.second_points-count.new.out_buoys ≡ read_room) = (
-  second_read c.second_points-count.result _ c.second_points-count.ensures.2 c.requires.2,
-  c.second_points-count.auto.out ∙ c.first_points.auto.out,
-  c.second_points-count.auto.out_buoys ∙ c.first_points.auto.out_buoys, in
+      second_read c.second_points-count.result _ c.second_points-count.ensures.2 c.requires.2,
+      c.second_points-count.auto.out ∙ c.first_points.auto.out,
+      c.second_points-count.auto.out_buoys ∙ c.first_points.auto.out_buoys,
+    ) in
     let vs = numbered (points c.args.v.now) c.args.buoys.now in
-    halves_built c.first_points.last.1.1.1.1.0 c.second_points-count.last.1.1.1.1.0 c.first_points.last.1.1.1.1.1.0 c.second_points-count.last.1.1.1.1.1.0 (c.args.i + 2) c.second_points-count.result
+    let whole = halves_built c.first_points.new.out c.second_points-count.new.out c.first_points.new.out_buoys c.second_points-count.new.out_buoys (c.args.i + 2) c.second_points-count.result
     (first_points c.args.x vs c.args.i) (second_points c.args.x vs c.args.i)
     c.build_piece-first.result.count c.build_piece-second.result.count c.build_piece-first.result.flag c.build_piece-second.result.flag
-    _ c.build_piece-first.last.1.1.0 _ c.build_piece-second.new.out _ _ c.build_piece-first.last.1.1.1.0 _ c.build_piece-second.new.out_buoys _
+    _ c.build_piece-first.new.out _ c.build_piece-second.new.out _ _ c.build_piece-first.new.out_buoys _ c.build_piece-second.new.out_buoys _
     c.first_points.ensures c.second_points-count.ensures.0 first-from.1 second-few.0 (c.build_piece-first.ensures.count_value, (c.build_piece-first.ensures.out_after, c.build_piece-first.ensures.out_buoys_after)) (c.build_piece-second.ensures.count_value, (c.build_piece-second.ensures.out_after, c.build_piece-second.ensures.out_buoys_after)) in
     record { count_value = whole.0; count_value_2 = whole.1.0; out_buoys_after = whole.1.1 }

@@ -106,8 +106,8 @@ returns c =
     let whole = cut_within c.args.x (numbered (points c.args.copy.now) c.args.copy_buoys.now) c.args.i c.args.work.now c.args.buoys.now c.args.counts.now c.args.flags.now c.args.m
     c.requires.5 c.args.k c.requires.3 c.args.at c.sum_of-total.result (get_or c.args.counts.now c.args.k 0) c.requires.4 c.sum_of-total.ensures
     refl c.build_halves-halves.result.first.count c.build_halves-halves.result.second.count c.build_halves-halves.result.first.flag c.build_halves-halves.result.second.flag c.build_halves-halves.ensures.count_value
-    c.build_halves-halves.ensures.count_value_2 c.replace_number.last.0 c.if-at-size-gt-MOST_POINTS.false c.replace_number.ensures c.build_halves-halves.last.1.1.1.1.0 c.replace_run.last.0
-    c.build_halves-halves.last.1.1.1.1.1.0 c.replace_buoys.last.0 c.replace_number-2.new.list c.build_halves-halves.auto.out c.build_halves-halves.auto.out_buoys
+    c.build_halves-halves.ensures.count_value_2 c.replace_number.new.list c.if-at-size-gt-MOST_POINTS.false c.replace_number.ensures c.build_halves-halves.new.out c.replace_run.new.work
+    c.build_halves-halves.new.out_buoys c.replace_buoys.new.buoys c.replace_number-2.new.list c.build_halves-halves.auto.out c.build_halves-halves.auto.out_buoys
     c.build_halves-halves.ensures.out_buoys_after.1 c.build_halves-halves.ensures.out_buoys_after.0 c.replace_run.ensures c.replace_buoys.ensures c.replace_number-2.ensures c.replace_run.auto.work
     c.replace_buoys.auto.buoys c.replace_number.auto.list c.replace_number-2.auto.list in
     record { flags_after = whole.0; stands = whole.1 }

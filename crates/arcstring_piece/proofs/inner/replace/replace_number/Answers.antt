@@ -13,13 +13,12 @@ pub loop-i-init : goal.loop-i-init
 loop-i-init c = (omega arith, omega arith, refl, moved_none c.args.list.now c.args.m)
 
 pub loop-i-preserved : goal.loop-i-preserved
-loop-i-preserved c =
-    (
-      omega arith,
-      omega arith,
-      simp length-set c.loop-i.invariant.2,
-      moved_step c.args.list.now _ c.args.m c.loop-i.i (omega arith) (omega arith) (omega arith) c.loop-i.invariant.3,
-    )
+loop-i-preserved c = (
+  omega arith,
+  omega arith,
+  simp length-set c.loop-i.invariant.2,
+  moved_step c.args.list.now _ c.args.m c.loop-i.i (omega arith) (omega arith) (omega arith) c.loop-i.invariant.3,
+)
 
 pub bounds-list-k-2 : goal.bounds-list-k-2
 bounds-list-k-2 c = simp length-set (omega arith)

@@ -2,15 +2,6 @@
 use Rattle.arcstring_tally.proofs.Tallies.{kept_of_kept, kept_of_dropped, kept_of_none}
 use Rattle.arcstring_tally.proofs.inner.tally.outcome_kept.Goals as goal
 
-pub enum_told-1 : goal.enum_told-1
-enum_told-1 c = c.in-Kept.keys1
-
-pub enum_told-in-Dropped : goal.enum_told-in-Dropped
-enum_told-in-Dropped c = c.in-Kept.keys2
-
-pub enum_told-in-None : goal.enum_told-in-None
-enum_told-in-None c = c.in-Kept.keys3
-
 pub returns-in-Kept : goal.returns-in-Kept
 returns-in-Kept c = kept_of_kept _ _ c.in-Kept.is
 

@@ -4,9 +4,6 @@ use Rattle.arcstring_tally.proofs.Marks.{room_for-one, one_written, none_written
 use borrow.Author.Rules.{rules}
 use Rattle.arcstring_tally.proofs.inner.tally.store.Goals as goal
 
-pub enum_known-p : goal.enum_known-p
-enum_known-p c = c.in-Clean.keys1
-
 pub put_mark-requires : goal.put_mark-requires
 put_mark-requires c = room_for-one _ _ c.args.points.now c.args.marks.now _ (keeps_clean _ _ c.in-Clean.is) c.requires
 
@@ -21,12 +18,6 @@ returns-in-Clean c =
     let whole = one_written _ _ _ _ _ _ _ _ (keeps_clean _ _ c.in-Clean.is)
     (c.put_mark.ensures.points_after, c.put_mark.ensures.marks_after) in
     record { value = whole.0; points_after = whole.1.0; marks_after = whole.1.1 }
-
-pub enum_known-p-in-Grazing-1 : goal.enum_known-p-in-Grazing-1
-enum_known-p-in-Grazing-1 c = c.in-Clean.keys2
-
-pub enum_known-o : goal.enum_known-o
-enum_known-o c = c.in-Kept.keys1
 
 pub put_mark-requires-in-Kept : goal.put_mark-requires-in-Kept
 put_mark-requires-in-Kept c =
@@ -44,27 +35,15 @@ returns-in-Kept c =
     (c.put_mark-in-Kept.ensures.points_after, c.put_mark-in-Kept.ensures.marks_after) in
     record { value = whole.0; points_after = whole.1.0; marks_after = whole.1.1 }
 
-pub enum_told-1 : goal.enum_told-1
-enum_told-1 c = c.in-Kept.keys2
-
 pub returns-in-Dropped : goal.returns-in-Dropped
 returns-in-Dropped c =
     let whole = none_written _ _ _ _ (dropped_keeps_none _ _ _ c.in-Grazing.is c.in-Dropped.is) in
     record { value = whole.0; points_after = whole.1.0; marks_after = whole.1.1 }
 
-pub enum_told-in-None : goal.enum_told-in-None
-enum_told-in-None c = c.in-Kept.keys3
-
 pub returns-in-None : goal.returns-in-None
 returns-in-None c =
     let whole = none_written _ _ _ _ (no_point_keeps_none _ _ c.in-Grazing.is c.in-None.is) in
     record { value = whole.0; points_after = whole.1.0; marks_after = whole.1.1 }
-
-pub enum_told-in-End : goal.enum_told-in-End
-enum_told-in-End c = c.in-Clean.keys3
-
-pub enum_told-in-Apart : goal.enum_told-in-Apart
-enum_told-in-Apart c = c.in-Clean.keys4
 
 pub returns-in-End : goal.returns-in-End
 returns-in-End c =

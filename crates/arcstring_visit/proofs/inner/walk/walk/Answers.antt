@@ -48,7 +48,7 @@ walk_row-t-requires c =
       );
       to_in_bounds = (still_long _ _ _ c.loop-i.invariant.4 c.requires.b_len.4, still_long _ _ _ c.loop-i.invariant.5 c.requires.b_len.5);
       room_if = walk_room _ _ _ _ _ c.requires.room_if c.loop-i.t _ _ _ _ _ next
-            c.loop-i.invariant.1;
+          c.loop-i.invariant.1;
     }
 
 pub overflow_add-i : goal.overflow_add-i
@@ -67,8 +67,7 @@ loop-i-preserved c =
     ++ visits_from c.args.margin c.args.within c.args.a.now (c.loop-i.i + 1) c.args.la
     c.args.b.now
     c.args.lb = visits_next _ _ _ _ c.requires.a_len.0 _ c.requires.a_len.1 _ _ _ _ _ c.requires.a_value c.loop-i-test.true c.leg_at-arc.ensures
-    c.row_start-from.ensures in
-    (
+    c.row_start-from.ensures in (
       counted_on _ _ _ _ _ _ next c.walk_row-t.ensures.value c.loop-i.invariant.0,
       walk_on _ _ _ _ _
           c.requires.room_if c.loop-i.t _ _ _ _ _ _ _ _ next c.loop-i.invariant.1

@@ -61,8 +61,7 @@ loop-j-preserved c =
     c.args.flagged.now c.loop-j.j c.args.m
     ≡ (c.pair_at-p.result ∷ []) ++ found_pairs c.args.margin (leg_of c.args.arc) c.args.v.now c.args.n
     c.args.flagged.now
-    (c.loop-j.j + 1) c.args.m = found_next _ _ _ _ _ _ _ _ _ c.loop-j-test.true c.requires.m_in_bounds.0 refl c.pair_at-p.ensures in
-    (
+    (c.loop-j.j + 1) c.args.m = found_next _ _ _ _ _ _ _ _ _ c.loop-j-test.true c.requires.m_in_bounds.0 refl c.pair_at-p.ensures in (
       counted_on _ _ _ _ _ _ next c.add-t.ensures c.loop-j.invariant.0,
       walk_on _ _ _ _ _
           c.requires.room_if

@@ -18,14 +18,13 @@ pub step-reader-requires : goal.step-reader-requires
 step-reader-requires c = (c.loop-i.invariant.1, c.loop-i.invariant.2, c.loop-i.invariant.3)
 
 pub loop-i-preserved : goal.loop-i-preserved
-loop-i-preserved c =
-    (
-      omega arith,
-      c.step-reader.ensures.0,
-      c.step-reader.auto.a ∙ c.loop-i.invariant.2,
-      c.step-reader.auto.b.0 ∙ c.loop-i.invariant.3,
-      fed-next (step_with keep) _ _ c.loop-i.i _ _ c.loop-i-test.true c.step-reader.ensures.1 c.loop-i.invariant.4,
-    )
+loop-i-preserved c = (
+  omega arith,
+  c.step-reader.ensures.0,
+  c.step-reader.auto.a ∙ c.loop-i.invariant.2,
+  c.step-reader.auto.b.0 ∙ c.loop-i.invariant.3,
+  fed-next (step_with keep) _ _ c.loop-i.i _ _ c.loop-i-test.true c.step-reader.ensures.1 c.loop-i.invariant.4,
+)
 
 pub shape_of-a : goal.shape_of-a
 shape_of-a c = c.loop-i.invariant.2 ∙ sym c.requires.1

@@ -24,11 +24,10 @@ pub slice_bounds-count_built-end-2 : goal.slice_bounds-count_built-end-2
 slice_bounds-count_built-end-2 c = sym (length-take-le _ _ (omega arith))
 
 pub count_built-conclusion-requires : goal.count_built-conclusion-requires
-count_built-conclusion-requires c =
-    (
-      omega (arith, length-take-le c.args.r.a c.args.a.now (omega arith)),
-      omega (arith, length-take-le c.args.r.b c.args.b.now (omega arith)),
-    )
+count_built-conclusion-requires c = (
+  omega (arith, length-take-le c.args.r.a c.args.a.now (omega arith)),
+  omega (arith, length-take-le c.args.r.b c.args.b.now (omega arith)),
+)
 
 pub returns-in-Refused : goal.returns-in-Refused
 returns-in-Refused c =

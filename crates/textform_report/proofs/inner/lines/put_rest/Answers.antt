@@ -6,9 +6,8 @@ use borrow.Author.Rules.{rules}
 use Rattle.textform_report.proofs.inner.lines.put_rest.Goals as goal
 
 pub returns : goal.returns
-returns c =
-    (
-      omega (arith, c.put_counts-at.ensures.0),
-      rest_written c.args.c c.permille-rate.result (take c.args.at c.args.out.now) _ _ c.permille-rate.ensures c.put_counts-at.ensures.1
-          c.put_number.ensures.1,
-    )
+returns c = (
+  omega (arith, c.put_counts-at.ensures.0),
+  rest_written c.args.c c.permille-rate.result (take c.args.at c.args.out.now) _ _ c.permille-rate.ensures c.put_counts-at.ensures.1
+      c.put_number.ensures.1,
+)

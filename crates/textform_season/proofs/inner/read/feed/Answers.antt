@@ -19,15 +19,14 @@ pub step-reading-requires : goal.step-reading-requires
 step-reading-requires c = (c.loop-i.invariant.1, c.loop-i.invariant.2, c.loop-i.invariant.3, c.loop-i.invariant.4)
 
 pub loop-i-preserved : goal.loop-i-preserved
-loop-i-preserved c =
-    (
-      omega arith,
-      c.step-reading.ensures.0,
-      c.step-reading.auto.limit ∙ c.loop-i.invariant.2,
-      c.step-reading.auto.track ∙ c.loop-i.invariant.3,
-      c.step-reading.auto.out ∙ c.loop-i.invariant.4,
-      fed-next (step_with end_track keep) _ _ c.loop-i.i _ _ c.loop-i-test.true c.step-reading.ensures.1 c.loop-i.invariant.5,
-    )
+loop-i-preserved c = (
+  omega arith,
+  c.step-reading.ensures.0,
+  c.step-reading.auto.limit ∙ c.loop-i.invariant.2,
+  c.step-reading.auto.track ∙ c.loop-i.invariant.3,
+  c.step-reading.auto.out ∙ c.loop-i.invariant.4,
+  fed-next (step_with end_track keep) _ _ c.loop-i.i _ _ c.loop-i-test.true c.step-reading.ensures.1 c.loop-i.invariant.5,
+)
 
 pub shape_of-limit : goal.shape_of-limit
 shape_of-limit c = c.loop-i.invariant.2 ∙ sym c.requires.1

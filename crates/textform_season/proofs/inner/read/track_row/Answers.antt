@@ -22,12 +22,11 @@ pub on_in_row-requires-then-n-r-2 : goal.on_in_row-requires-then-n-r-2
 on_in_row-requires-then-n-r-2 c = c.next_track.ensures.0
 
 pub returns-then-n-r-2 : goal.returns-then-n-r-2
-returns-then-n-r-2 c =
-    (
-      c.on_in_row-then-n-r-2.ensures.0,
-      c.on_in_row-then-n-r-2.ensures.1 _ _ _ ∙ ap (on_in_row true) c.next_track.ensures.1
-          ∙ one_more_track (held_season c.args.r c.args.limit.now c.args.track.now c.args.out.now) c.args.n c.if-n-r.false c.if-n-r-2.true,
-    )
+returns-then-n-r-2 c = (
+  c.on_in_row-then-n-r-2.ensures.0,
+  c.on_in_row-then-n-r-2.ensures.1 _ _ _ ∙ ap (on_in_row true) c.next_track.ensures.1
+      ∙ one_more_track (held_season c.args.r c.args.limit.now c.args.track.now c.args.out.now) c.args.n c.if-n-r.false c.if-n-r-2.true,
+)
 
 pub malformed-requires : goal.malformed-requires
 malformed-requires c = c.requires.0
