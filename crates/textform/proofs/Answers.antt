@@ -12,8 +12,7 @@ use lib.Signed.{lt_z}
 use mir.Syntax.{w64}
 use mir.Val.{SFits, to_z, of_z}
 use mir.ValLaws.{to_z-of_z}
-use Rattle.io.specs.Counts.{clamp_len}
-use Rattle.textform.specs.Pieces.{most_read, OneRead}
+use Rattle.textform.specs.Pieces.{most_read, OneRead, clamp_len}
 
 -- what is fed, to whatever state, is what was read: n bytes of a buffer that is as long as before
 pub fed_as_read : {S : Type 0} (feed : S → List ℕ → S) (got : ℤ) (s held : S) (n old : ℕ) (bytes : List ℕ) → held ≡ feed s (take n bytes)

@@ -93,6 +93,10 @@ is_digit P.Nothing = false
 
 is_digit_lem : (part : Part) → T (is_digit part) → part ≡ P.Digit
 is_digit_lem P.Digit t = refl
+is_digit_lem (P.Exactly _) t = elim t [ ]
+is_digit_lem P.Name t = elim t [ ]
+is_digit_lem P.LastDigit t = elim t [ ]
+is_digit_lem P.Nothing t = elim t [ ]
 
 module _ (first : ℕ) where
   abbrev digit_at : ℕ → Bool

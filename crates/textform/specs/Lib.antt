@@ -3,6 +3,7 @@
 pub mod Text
 pub mod Written
 pub mod Print
+pub mod Digits
 pub mod Kept
 pub mod Pieces
 pub mod TextLaws

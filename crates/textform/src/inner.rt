@@ -1,4 +1,5 @@
 // What the programs of this repository use: its functions ask for lists of certain lengths, which the programs lend.
+pub mod input;
 pub mod print;
 pub mod read;
 pub mod say;

@@ -1,6 +1,7 @@
 // What the programs print: texts, decimal numbers, and the line of a refusal.
 ghost use Rattle.std.specs.Prelude.{◌≡◌, [], ◌∷◌, ◌++◌, ◌+◌, ◌≤◌, ◌<◌, length, take};
 ghost use Rattle.textform.specs.Print.{print_room, most_digits, decimal, refusal_text};
+ghost use Rattle.textform.specs.Digits.{last_digits, IsDigitCount, IsPrefixLen};
 
 // Room for a refusal, and for what the counting program prints.
 pub const PRINT_ROOM: usize = 128;
@@ -21,13 +22,51 @@ pub fn put_text(out: &mut [u8], at: usize, text: &[u8]) -> usize
     at + i
 }
 
+// How many decimal digits a number has.
+fn digit_count(n: u64) -> usize
+    ensures { IsDigitCount n result }
+{
+    let mut count = 1;
+    let mut rest = n / 10;
+    while rest > 0 {
+        rest /= 10;
+        count += 1;
+    }
+    count
+}
+
+// So many of a number's last decimal digits, at the start of `out`.
+fn write_digits(n: u64, count: usize, out: &mut [u8])
+    requires { count ≤ length out.old }
+    ensures { take count out.new ≡ last_digits count n }
+{
+    let mut i = count;
+    let mut rest = n;
+    while i > 0 {
+        i -= 1;
+        out[i] = b'0' + (rest % 10) as u8;
+        rest /= 10;
+    }
+}
+
+// A number's decimal digits at the start of `out`; how many there are.
+fn decimal(n: u64, out: &mut [u8; MOST_DIGITS]) -> usize
+    ensures in_bounds { IsPrefixLen result out.new }
+    ensures len { IsDigitCount n result }
+    ensures digits { take result out.new ≡ last_digits result n }
+{
+    let count = digit_count(n);
+    write_digits(n, count, out);
+    count
+}
+
 // A number's decimal digits written from position `at` on; where they end.
 fn put_decimal(out: &mut [u8], at: usize, n: u64) -> usize
     requires { at + most_digits ≤ length out.old }
     ensures { (result ≤ at + most_digits) × (take result out.new ≡ take at out.old ++ decimal n) }
 {
     let mut digits = [0u8; MOST_DIGITS];
-    let count = io::decimal(n, &mut digits);
+    let count = decimal(n, &mut digits);
     put_text(out, at, &digits[..count])
 }
 

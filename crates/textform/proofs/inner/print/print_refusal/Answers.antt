@@ -1,6 +1,5 @@
 -- `print_refusal` writes the word, and the number with a line feed after it. Assumes nothing.
 use native.Mathlib.Omega.{arith}
-use borrow.Author.Rules.{rules}
 use Rattle.textform.proofs.inner.print.Printed.{refusal_written}
 use Rattle.textform.proofs.inner.print.print_refusal.Goals as goal
 

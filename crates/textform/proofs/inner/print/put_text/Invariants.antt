@@ -1,10 +1,8 @@
 -- `put_text` writes bytes from a position on: after i turns the first i stand there. Assumes nothing.
-use mathlib.Core.Path.{◌≡◌, refl, ◌∙◌}
+use mathlib.Core.Path.{◌≡◌}
 use mathlib.Core.List.{◌++◌}
 use Prim.Native.Nat.{◌+◌, ◌-◌, ◌≤◌}
-use native.Mathlib.Omega.{arith}
-use lib.ListN.{length, take, length-set}
-use Rattle.textform.proofs.inner.print.Texts.{written_nothing, written_more, written_all}
+use lib.ListN.{length, take}
 use Rattle.textform.proofs.inner.print.put_text.Given as goal
 
 abbrev pub invariant-loop-i : goal.invariant-loop-i

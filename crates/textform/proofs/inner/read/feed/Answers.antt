@@ -1,10 +1,8 @@
 -- `read::feed` takes the bytes in turn: what is left of them, fed to the state that is held, gives the whole. Assumes nothing.
-use mathlib.Core.Path.{◌≡◌, refl, sym, ◌∙◌}
-use Prim.Native.Nat.{◌≤◌, ◌-◌}
+use mathlib.Core.Path.{refl, sym, ◌∙◌}
 use native.Mathlib.Omega.{arith}
-use lib.ListN.{length, drop}
-use Rattle.textform.specs.Text.{step_with, fed_with}
-use Rattle.textform.specs.Kept.{floats_kept, keep, held_state, Sound}
+use Rattle.textform.specs.Text.{step_with}
+use Rattle.textform.specs.Kept.{keep}
 use Rattle.textform.proofs.Turns.{fed-next, fed_all}
 use Rattle.textform.proofs.inner.read.feed.Goals as goal
 
@@ -22,7 +20,7 @@ loop-i-preserved c = (
   omega arith,
   c.step-reader.ensures.0,
   c.step-reader.auto.a ∙ c.loop-i.invariant.2,
-  c.step-reader.auto.b.0 ∙ c.loop-i.invariant.3,
+  c.step-reader.auto.b ∙ c.loop-i.invariant.3,
   fed-next (step_with keep) _ _ c.loop-i.i _ _ c.loop-i-test.true c.step-reader.ensures.1 c.loop-i.invariant.4,
 )
 

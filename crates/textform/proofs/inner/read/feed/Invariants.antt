@@ -1,11 +1,9 @@
 -- `read::feed` takes the bytes in turn: what is left of them, fed to the state that is held, gives the whole. Assumes nothing.
-use mathlib.Core.Path.{◌≡◌, refl, sym, ◌∙◌}
+use mathlib.Core.Path.{◌≡◌}
 use Prim.Native.Nat.{◌≤◌, ◌-◌}
-use native.Mathlib.Omega.{arith}
 use lib.ListN.{length, drop}
-use Rattle.textform.specs.Text.{step_with, fed_with}
+use Rattle.textform.specs.Text.{fed_with}
 use Rattle.textform.specs.Kept.{floats_kept, keep, held_state, Sound}
-use Rattle.textform.proofs.Turns.{fed-next, fed_all}
 use Rattle.textform.proofs.inner.read.feed.Given as goal
 
 abbrev pub invariant-loop-i : goal.invariant-loop-i

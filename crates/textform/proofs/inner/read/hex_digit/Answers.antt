@@ -1,5 +1,4 @@
 -- `read::hex_digit` gives a hexadecimal digit's value, whichever way its tests go, by `Digits`. Assumes nothing.
-use borrow.Author.Rules.{rules}
 use Rattle.textform.proofs.inner.read.Digits.{before_digits, at_digit, between, at_letter, past_letters}
 use Rattle.textform.proofs.inner.read.hex_digit.Goals as goal
 

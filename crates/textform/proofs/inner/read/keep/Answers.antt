@@ -1,7 +1,6 @@
 -- `read::keep` adds one float, or leaves a full list, by `Keeping`. Assumes nothing.
 use native.Mathlib.Omega.{arith}
 use Rattle.textform.proofs.inner.read.Keeping.{kept_full, kept_more}
-use borrow.Author.Rules.{rules}
 use Rattle.textform.proofs.inner.read.keep.Goals as goal
 
 pub returns-then-n-eq-FLOATS_KEPT : goal.returns-then-n-eq-FLOATS_KEPT

@@ -1,5 +1,4 @@
 -- `read::onward` goes on to the next place, which `Places` has within bounds. Assumes nothing.
-use borrow.Author.Rules.{rules}
 use Rattle.textform.proofs.inner.read.Reading.{onward-held}
 use Rattle.textform.proofs.inner.read.onward.Goals as goal
 

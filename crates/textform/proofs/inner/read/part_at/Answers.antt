@@ -1,5 +1,4 @@
 -- `read::part_at` is its definition, whichever way its tests go. Assumes nothing.
-use borrow.Author.Rules.{rules}
 use borrow.Author.Tests.{lt-ltb, le-ltb}
 use Rattle.textform.specs.Text.{part_at}
 use Rattle.textform.proofs.inner.read.part_at.Goals as goal

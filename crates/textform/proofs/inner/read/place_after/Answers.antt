@@ -1,5 +1,4 @@
 -- `read::place_after` is its definition, whichever way its test goes. Assumes nothing.
-use borrow.Author.Rules.{rules}
 use borrow.Author.Tests.{eq-eqb, ne_eqb}
 use Rattle.textform.specs.Text.{place_after}
 use Rattle.textform.proofs.inner.read.place_after.Goals as goal

@@ -1,5 +1,4 @@
 -- `read::row_part` is its definition, whichever way its tests go. Assumes nothing.
-use borrow.Author.Rules.{rules}
 use borrow.Author.Tests.{eq-eqb, ne_eqb}
 use Rattle.textform.specs.Text.{row_part}
 use Rattle.textform.proofs.inner.read.row_part.Goals as goal

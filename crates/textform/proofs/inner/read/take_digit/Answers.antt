@@ -1,7 +1,6 @@
 -- `read::take_digit` puts a digit after those so far, which `Reading` has fit. Assumes nothing.
 use mathlib.Core.Path.{◌≡◌}
 use mathlib.Core.Option.{some}
-use borrow.Author.Rules.{rules}
 use Rattle.textform.specs.Text.{hex_digit}
 use Rattle.textform.proofs.inner.read.Places.{rule_at}
 use Rattle.textform.proofs.inner.read.Reading.{digit_value_lem, digit_none, digits_fit, digit_fits, digit_next}
@@ -22,7 +21,7 @@ overflow_add-r c =
 pub onward-requires : goal.onward-requires
 onward-requires c =
     let value : hex_digit c.args.byte ≡ some c.in-Value.d = digit_value_lem c.args.byte c.hex_digit-digit.ensures c.in-Value.is in
-    (c.requires.0, (rule_at _ _ c.requires.1).0.in_row, digit_next c.args.r c.requires.0 c.args.byte _ _ value c.wide.ensures c.requires.1)
+    (c.requires.0, (rule_at _ _ c.requires.1).0.in-row, digit_next c.args.r c.requires.0 c.args.byte _ _ value c.wide.ensures c.requires.1)
 
 pub returns : goal.returns
 returns c =

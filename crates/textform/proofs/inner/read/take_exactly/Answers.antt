@@ -1,5 +1,4 @@
 -- `read::take_exactly` goes on where the byte is the one that has to stand there. Assumes nothing.
-use borrow.Author.Rules.{rules}
 use borrow.Author.Tests.{eq-eqb, ne_eqb}
 use Rattle.textform.proofs.inner.read.Places.{rule_at, some_power}
 use Rattle.textform.proofs.inner.read.take_exactly.Goals as goal

@@ -1,7 +1,6 @@
 -- `read::take_last_digit` keeps the float of the digits so far and one more, which `Reading` has fit. Assumes nothing.
 use mathlib.Core.Path.{◌≡◌}
 use mathlib.Core.Option.{some}
-use borrow.Author.Rules.{rules}
 use Rattle.textform.specs.Text.{hex_digit}
 use Rattle.textform.proofs.inner.read.Places.{rule_at}
 use Rattle.textform.proofs.inner.read.Reading.{digit_value_lem, digit_none, digits_fit, digit_fits}

@@ -1,17 +1,16 @@
 -- `read::take_name` goes on in a row of the string that is named. Assumes nothing.
-use borrow.Author.Rules.{rules}
 use borrow.Author.Tests.{eq-eqb, ne_eqb}
 use Rattle.textform.proofs.inner.read.Places.{rule_at, some_power}
 use Rattle.textform.proofs.inner.read.take_name.Goals as goal
 
 pub onward-requires : goal.onward-requires
-onward-requires c = (c.requires.0, (rule_at _ _ c.requires.1).0.in_row, some_power _)
+onward-requires c = (c.requires.0, (rule_at _ _ c.requires.1).0.in-row, some_power _)
 
 pub returns-then-byte-eq65 : goal.returns-then-byte-eq65
 returns-then-byte-eq65 c = (c.onward.ensures.0, λ a b. rw (eq-eqb _ _ c.if-byte-eq65.true) (c.onward.ensures.1 a b))
 
 pub onward-requires-then-byte-eq66 : goal.onward-requires-then-byte-eq66
-onward-requires-then-byte-eq66 c = (c.requires.0, (rule_at _ _ c.requires.1).0.in_row, some_power _)
+onward-requires-then-byte-eq66 c = (c.requires.0, (rule_at _ _ c.requires.1).0.in-row, some_power _)
 
 pub returns-then-byte-eq66 : goal.returns-then-byte-eq66
 returns-then-byte-eq66 c =

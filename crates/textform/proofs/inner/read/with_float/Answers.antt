@@ -1,6 +1,5 @@
 -- `read::with_float` keeps a whole float for the string of its row, by `Reading`. Assumes nothing.
 use Rattle.textform.proofs.inner.read.Reading.{second_kept, first_kept}
-use borrow.Author.Rules.{rules}
 use Rattle.textform.proofs.inner.read.with_float.Goals as goal
 
 pub returns-then-r : goal.returns-then-r
