@@ -1,6 +1,7 @@
 // Which function runs a call.
 use crate::read::Request;
 use crate::{crossings, strings, verdicts, vertices};
+use std::io::Print;
 
 // The call of a request run, and what it returned and left printed. The numbers of the calls:
 //
@@ -11,6 +12,7 @@ use crate::{crossings, strings, verdicts, vertices};
 //     24 crosses       25 overlaps       26 within               27 contains          28 mark_on_leg   29 mark_on_string
 //     30 cut_at_marks
 pub(crate) fn answer(
+    stdout: &impl Print,
     q: Request,
     a: &[f64],
     a_near: &[f64],
@@ -21,16 +23,16 @@ pub(crate) fn answer(
 ) {
     let call = q.call;
     match call {
-        2 => vertices::point(a),
-        7 => vertices::run(q, a),
-        8 => crossings::pair(a, b),
-        9 | 10 | 12 => crossings::listing(q, a, b),
-        11 => crossings::count(q, a, b),
-        15 | 16 | 20 => vertices::written(q, a, b),
-        3..=6 | 18 | 19 => strings::written(q, a, a_buoys, b, b_buoys),
-        21 => strings::split(q, a, a_buoys, b, b_buoys),
-        30 => strings::cut_at_marks(q, a, a_buoys, b, b_buoys),
-        0 | 1 | 13 | 14 | 17 | 28 | 29 => verdicts::on_string(q, a, b, b_near),
-        _ => verdicts::relation(q, a, a_near, b, b_near),
+        2 => vertices::point(stdout, a),
+        7 => vertices::run(stdout, q, a),
+        8 => crossings::pair(stdout, a, b),
+        9 | 10 | 12 => crossings::listing(stdout, q, a, b),
+        11 => crossings::count(stdout, q, a, b),
+        15 | 16 | 20 => vertices::written(stdout, q, a, b),
+        3..=6 | 18 | 19 => strings::written(stdout, q, a, a_buoys, b, b_buoys),
+        21 => strings::split(stdout, q, a, a_buoys, b, b_buoys),
+        30 => strings::cut_at_marks(stdout, q, a, a_buoys, b, b_buoys),
+        0 | 1 | 13 | 14 | 17 | 28 | 29 => verdicts::on_string(stdout, q, a, b, b_near),
+        _ => verdicts::relation(stdout, q, a, a_near, b, b_near),
     }
 }

@@ -3,8 +3,9 @@
 use crate::lent::{BYTE, COUNT, FLOAT, NUMBER, six};
 use crate::print;
 use crate::read::Request;
+use std::io::Print;
 
-pub(crate) fn pair(a: &[f64], b: &[f64]) {
+pub(crate) fn pair(stdout: &impl Print, a: &[f64], b: &[f64]) {
     let first = six(a);
     let second = six(b);
     let mut class = BYTE;
@@ -13,13 +14,13 @@ pub(crate) fn pair(a: &[f64], b: &[f64]) {
     let n = arcstring_c::crossing::arcstring_pair(
         &first, &second, &mut class, &mut kept, &mut point,
     );
-    print::print_returned(n);
-    print::print_point(&point);
-    print::print_byte(class);
-    print::print_byte(kept);
+    print::print_returned(stdout, n);
+    print::print_point(stdout, &point);
+    print::print_byte(stdout, class);
+    print::print_byte(stdout, kept);
 }
 
-pub(crate) fn count(q: Request, a: &[f64], b: &[f64]) {
+pub(crate) fn count(stdout: &impl Print, q: Request, a: &[f64], b: &[f64]) {
     let mut counts = [COUNT; 4];
     let n = arcstring_c::listing::arcstring_count(
         a,
@@ -29,19 +30,33 @@ pub(crate) fn count(q: Request, a: &[f64], b: &[f64]) {
         q.margin,
         &mut counts,
     );
-    print::print_returned(n);
-    print::print_counts(&counts);
+    print::print_returned(stdout, n);
+    print::print_counts(stdout, &counts);
 }
 
-fn print_listing(n: u32, points: &[f64], marks: &[u8], kept: usize, counts: &[u64; 4]) {
-    print::print_returned(n);
-    print::print_floats(points);
-    print::print_bytes(marks);
-    print::print_number(kept);
-    print::print_counts(counts);
+fn print_listing(
+    stdout: &impl Print,
+    n: u32,
+    points: &[f64],
+    marks: &[u8],
+    kept: usize,
+    counts: &[u64; 4],
+) {
+    print::print_returned(stdout, n);
+    print::print_floats(stdout, points);
+    print::print_bytes(stdout, marks);
+    print::print_number(stdout, kept);
+    print::print_counts(stdout, counts);
 }
 
-fn leg_crossings(q: Request, a: &[f64], b: &[f64], points: &mut [f64], marks: &mut [u8]) {
+fn leg_crossings(
+    stdout: &impl Print,
+    q: Request,
+    a: &[f64],
+    b: &[f64],
+    points: &mut [f64],
+    marks: &mut [u8],
+) {
     let leg = six(a);
     let mut kept = NUMBER;
     let mut counts = [COUNT; 4];
@@ -55,10 +70,17 @@ fn leg_crossings(q: Request, a: &[f64], b: &[f64], points: &mut [f64], marks: &m
         &mut kept,
         &mut counts,
     );
-    print_listing(n, points, marks, kept, &counts);
+    print_listing(stdout, n, points, marks, kept, &counts);
 }
 
-fn crossings(q: Request, a: &[f64], b: &[f64], points: &mut [f64], marks: &mut [u8]) {
+fn crossings(
+    stdout: &impl Print,
+    q: Request,
+    a: &[f64],
+    b: &[f64],
+    points: &mut [f64],
+    marks: &mut [u8],
+) {
     let mut kept = NUMBER;
     let mut counts = [COUNT; 4];
     let n = arcstring_c::listing::arcstring_crossings(
@@ -72,10 +94,16 @@ fn crossings(q: Request, a: &[f64], b: &[f64], points: &mut [f64], marks: &mut [
         &mut kept,
         &mut counts,
     );
-    print_listing(n, points, marks, kept, &counts);
+    print_listing(stdout, n, points, marks, kept, &counts);
 }
 
-fn crossings_with_self(q: Request, a: &[f64], points: &mut [f64], marks: &mut [u8]) {
+fn crossings_with_self(
+    stdout: &impl Print,
+    q: Request,
+    a: &[f64],
+    points: &mut [f64],
+    marks: &mut [u8],
+) {
     let mut kept = NUMBER;
     let mut counts = [COUNT; 4];
     let n = arcstring_c::with_self::arcstring_crossings_with_self(
@@ -86,24 +114,38 @@ fn crossings_with_self(q: Request, a: &[f64], points: &mut [f64], marks: &mut [u
         &mut kept,
         &mut counts,
     );
-    print_listing(n, points, marks, kept, &counts);
+    print_listing(stdout, n, points, marks, kept, &counts);
 }
 
 // The listings: 9, 10 and 12.
-fn list(q: Request, a: &[f64], b: &[f64], points: &mut [f64], marks: &mut [u8]) {
+fn list(
+    stdout: &impl Print,
+    q: Request,
+    a: &[f64],
+    b: &[f64],
+    points: &mut [f64],
+    marks: &mut [u8],
+) {
     let call = q.call;
     match call {
-        9 => return leg_crossings(q, a, b, points, marks),
-        10 => return crossings(q, a, b, points, marks),
-        _ => return crossings_with_self(q, a, points, marks),
+        9 => return leg_crossings(stdout, q, a, b, points, marks),
+        10 => return crossings(stdout, q, a, b, points, marks),
+        _ => return crossings_with_self(stdout, q, a, points, marks),
     }
 }
 
 // The same, with the points and the marks.
-pub(crate) fn listing(q: Request, a: &[f64], b: &[f64]) {
+pub(crate) fn listing(stdout: &impl Print, q: Request, a: &[f64], b: &[f64]) {
     let mut floats = [FLOAT; 256];
     let mut bytes = [BYTE; 256];
     let float_room = q.floats as usize;
     let byte_room = q.bytes as usize;
-    list(q, a, b, &mut floats[..float_room], &mut bytes[..byte_room]);
+    list(
+        stdout,
+        q,
+        a,
+        b,
+        &mut floats[..float_room],
+        &mut bytes[..byte_room],
+    );
 }

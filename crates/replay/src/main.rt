@@ -33,9 +33,12 @@ mod verdicts;
 mod vertices;
 
 use read::{Asked, Request};
+use std::io::{Print, Read};
 
 // The lists of buoys of a request read, and its answer printed; false where the lists are not there whole.
 fn answer_buoys(
+    stdin: &mut impl Read,
+    stdout: &impl Print,
     label: &[u8; 48],
     q: Request,
     a: &[f64],
@@ -45,18 +48,19 @@ fn answer_buoys(
 ) -> bool {
     let mut a_buoys = [0u32; 3200];
     let mut b_buoys = [0u32; 3200];
-    let first = read::read_buoy_list(&mut a_buoys);
+    let first = read::read_buoy_list(stdin, &mut a_buoys);
     if !first.whole {
         return false;
     }
-    let second = read::read_buoy_list(&mut b_buoys);
+    let second = read::read_buoy_list(stdin, &mut b_buoys);
     if !second.whole {
         return false;
     }
     let a_end = first.length;
     let b_end = second.length;
-    io::write_all(1, label);
+    let _ = stdout.write_all(label);
     calls::answer(
+        stdout,
         q,
         a,
         a_near,
@@ -65,28 +69,28 @@ fn answer_buoys(
         &a_buoys[..a_end],
         &b_buoys[..b_end],
     );
-    io::write_all(1, b"\n")
+    stdout.write_all(b"\n").is_ok()
 }
 
 // The four lists of floats of a request read, and what follows them; false where the lists are not there whole.
-fn answer_lists(label: &[u8; 48], q: Request) -> bool {
+fn answer_lists(stdin: &mut impl Read, stdout: &impl Print, label: &[u8; 48], q: Request) -> bool {
     let mut a = [0.0; 3200];
     let mut a_near = [0.0; 3200];
     let mut b = [0.0; 3200];
     let mut b_near = [0.0; 3200];
-    let first = read::read_list(&mut a);
+    let first = read::read_list(stdin, &mut a);
     if !first.whole {
         return false;
     }
-    let first_near = read::read_list(&mut a_near);
+    let first_near = read::read_list(stdin, &mut a_near);
     if !first_near.whole {
         return false;
     }
-    let second = read::read_list(&mut b);
+    let second = read::read_list(stdin, &mut b);
     if !second.whole {
         return false;
     }
-    let second_near = read::read_list(&mut b_near);
+    let second_near = read::read_list(stdin, &mut b_near);
     if !second_near.whole {
         return false;
     }
@@ -95,6 +99,8 @@ fn answer_lists(label: &[u8; 48], q: Request) -> bool {
     let b_end = second.length;
     let b_near_end = second_near.length;
     answer_buoys(
+        stdin,
+        stdout,
         label,
         q,
         &a[..a_end],
@@ -105,25 +111,25 @@ fn answer_lists(label: &[u8; 48], q: Request) -> bool {
 }
 
 // One request answered; false where there is none, or not a whole one.
-fn answer_one() -> bool {
+fn answer_one(stdin: &mut impl Read, stdout: &impl Print) -> bool {
     let mut label = [0u8; 48];
-    let count = io::read_full(0, &mut label);
-    if count < 48 {
+    if stdin.read_exact(&mut label).is_err() {
         return false;
     }
-    let asked = read::read_request();
+    let asked = read::read_request(stdin);
     let Asked::Request(q) = asked else {
         return false;
     };
-    answer_lists(&label, q)
+    answer_lists(stdin, stdout, &label, q)
 }
 
 // A proved loop has to end, and nothing says that the input does: so the loop counts its turns down, from a number that no run
 // uses up.
-fn main() {
+fn main(rt: HostRuntime) {
+    let mut stdin = rt.stdin();
     let mut turns = u64::MAX;
     while turns > 0 {
-        if !answer_one() {
+        if !answer_one(&mut stdin, &rt.stdout()) {
             return;
         }
         turns -= 1;

@@ -1,6 +1,7 @@
 // What is read of standard input: words, lists of floats and of buoys, and the words of a request that stand before its lists.
 ghost use Rattle.std.specs.Prelude.{◌≡◌, ◌≤◌, length, take};
 
+use std::io::Read;
 use textform::inner::read;
 use textform::inner::read::Digit;
 
@@ -78,17 +79,16 @@ fn number(bytes: &[u8; 17]) -> Word {
     Word::Value(word)
 }
 
-fn read_word() -> Word {
+fn read_word(stdin: &mut impl Read) -> Word {
     let mut bytes = [0u8; 17];
-    let count = io::read_full(0, &mut bytes);
-    if count < 17 {
+    if stdin.read_exact(&mut bytes).is_err() {
         return Word::None;
     }
     number(&bytes)
 }
 
-fn read_small() -> Small {
-    let word = read_word();
+fn read_small(stdin: &mut impl Read) -> Small {
+    let word = read_word(stdin);
     let Word::Value(n) = word else {
         return Small::None;
     };
@@ -98,35 +98,35 @@ fn read_small() -> Small {
     Small::Value(n as u8)
 }
 
-pub(crate) fn read_request() -> Asked {
-    let Small::Value(call) = read_small() else {
+pub(crate) fn read_request(stdin: &mut impl Read) -> Asked {
+    let Small::Value(call) = read_small(stdin) else {
         return Asked::None;
     };
-    let Small::Value(first_flag) = read_small() else {
+    let Small::Value(first_flag) = read_small(stdin) else {
         return Asked::None;
     };
-    let Small::Value(second_flag) = read_small() else {
+    let Small::Value(second_flag) = read_small(stdin) else {
         return Asked::None;
     };
-    let Word::Value(first) = read_word() else {
+    let Word::Value(first) = read_word(stdin) else {
         return Asked::None;
     };
-    let Word::Value(second) = read_word() else {
+    let Word::Value(second) = read_word(stdin) else {
         return Asked::None;
     };
-    let Small::Value(floats) = read_small() else {
+    let Small::Value(floats) = read_small(stdin) else {
         return Asked::None;
     };
-    let Small::Value(bytes) = read_small() else {
+    let Small::Value(bytes) = read_small(stdin) else {
         return Asked::None;
     };
-    let Small::Value(numbers) = read_small() else {
+    let Small::Value(numbers) = read_small(stdin) else {
         return Asked::None;
     };
-    let Small::Value(buoys) = read_small() else {
+    let Small::Value(buoys) = read_small(stdin) else {
         return Asked::None;
     };
-    let Word::Value(margin) = read_word() else {
+    let Word::Value(margin) = read_word(stdin) else {
         return Asked::None;
     };
     if call > 30 {
@@ -156,13 +156,13 @@ fn float_of(bits: u64) -> f64 {
 }
 
 // The first floats of a list read; false where the list has not as many, or the input.
-fn read_floats(list: &mut [f64], count: usize) -> bool {
+fn read_floats(stdin: &mut impl Read, list: &mut [f64], count: usize) -> bool {
     if count > list.len() {
         return false;
     }
     let mut i = 0;
     while i < count {
-        let word = read_word();
+        let word = read_word(stdin);
         let Word::Value(bits) = word else {
             return false;
         };
@@ -182,7 +182,7 @@ fn repeat(list: &mut [f64], period: usize) {
 }
 
 // The two words before the elements of a list that has at most so many: its length, and its period, 0 for the empty list alone.
-fn read_shape(most: usize) -> Shape
+fn read_shape(stdin: &mut impl Read, most: usize) -> Shape
     ensures { result.length ≤ most }
 {
     let none = Shape {
@@ -190,10 +190,10 @@ fn read_shape(most: usize) -> Shape
         length: 0,
         period: 0,
     };
-    let Word::Value(length) = read_word() else {
+    let Word::Value(length) = read_word(stdin) else {
         return none;
     };
-    let Word::Value(period) = read_word() else {
+    let Word::Value(period) = read_word(stdin) else {
         return none;
     };
     let length = length as usize;
@@ -209,19 +209,19 @@ fn read_shape(most: usize) -> Shape
 }
 
 // A list read: its length, its period, and as many floats as the period, which the rest of it repeats.
-pub(crate) fn read_list(list: &mut [f64]) -> Listed
+pub(crate) fn read_list(stdin: &mut impl Read, list: &mut [f64]) -> Listed
     ensures { (result.length ≤ length list.new) × (result.length ≡ length (take result.length list.new)) }
 {
     let none = Listed {
         whole: false,
         length: 0,
     };
-    let shape = read_shape(list.len());
+    let shape = read_shape(stdin, list.len());
     let period = shape.period;
     if !shape.whole {
         return none;
     }
-    if !read_floats(list, period) {
+    if !read_floats(stdin, list, period) {
         return none;
     }
     repeat(list, period);
@@ -232,13 +232,13 @@ pub(crate) fn read_list(list: &mut [f64]) -> Listed
 }
 
 // The first buoys of a list read; false where the list has not as many, or the input, or a number is over 32 bits.
-fn read_buoys(list: &mut [u32], count: usize) -> bool {
+fn read_buoys(stdin: &mut impl Read, list: &mut [u32], count: usize) -> bool {
     if count > list.len() {
         return false;
     }
     let mut i = 0;
     while i < count {
-        let word = read_word();
+        let word = read_word(stdin);
         let Word::Value(n) = word else {
             return false;
         };
@@ -261,19 +261,19 @@ fn repeat_buoys(list: &mut [u32], period: usize) {
 }
 
 // A list of buoys read, as a list of floats is.
-pub(crate) fn read_buoy_list(list: &mut [u32]) -> Listed
+pub(crate) fn read_buoy_list(stdin: &mut impl Read, list: &mut [u32]) -> Listed
     ensures { (result.length ≤ length list.new) × (result.length ≡ length (take result.length list.new)) }
 {
     let none = Listed {
         whole: false,
         length: 0,
     };
-    let shape = read_shape(list.len());
+    let shape = read_shape(stdin, list.len());
     let period = shape.period;
     if !shape.whole {
         return none;
     }
-    if !read_buoys(list, period) {
+    if !read_buoys(stdin, list, period) {
         return none;
     }
     repeat_buoys(list, period);

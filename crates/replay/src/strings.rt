@@ -3,26 +3,34 @@
 use crate::lent::{BUOY, BYTE, FLOAT, NUMBER};
 use crate::print;
 use crate::read::Request;
+use std::io::Print;
 
-fn print_string(n: u32, out: &[f64], out_buoys: &[u32], count: usize) {
-    print::print_returned(n);
-    print::print_floats(out);
-    print::print_buoys(out_buoys);
-    print::print_number(count);
+fn print_string(stdout: &impl Print, n: u32, out: &[f64], out_buoys: &[u32], count: usize) {
+    print::print_returned(stdout, n);
+    print::print_floats(stdout, out);
+    print::print_buoys(stdout, out_buoys);
+    print::print_number(stdout, count);
 }
 
-fn build(a: &[f64], buoys: &[u32], out: &mut [f64], out_buoys: &mut [u32]) {
+fn build(stdout: &impl Print, a: &[f64], buoys: &[u32], out: &mut [f64], out_buoys: &mut [u32]) {
     let mut count = NUMBER;
     let mut closed = BYTE;
     let n = arcstring_c::build::arcstring_build(a, buoys, out, out_buoys, &mut count, &mut closed);
-    print::print_returned(n);
-    print::print_floats(out);
-    print::print_buoys(out_buoys);
-    print::print_byte(closed);
-    print::print_number(count);
+    print::print_returned(stdout, n);
+    print::print_floats(stdout, out);
+    print::print_buoys(stdout, out_buoys);
+    print::print_byte(stdout, closed);
+    print::print_number(stdout, count);
 }
 
-fn build_flagged(q: Request, a: &[f64], buoys: &[u32], out: &mut [f64], out_buoys: &mut [u32]) {
+fn build_flagged(
+    stdout: &impl Print,
+    q: Request,
+    a: &[f64],
+    buoys: &[u32],
+    out: &mut [f64],
+    out_buoys: &mut [u32],
+) {
     let mut count = NUMBER;
     let n = arcstring_c::build::arcstring_build_flagged(
         a,
@@ -32,16 +40,29 @@ fn build_flagged(q: Request, a: &[f64], buoys: &[u32], out: &mut [f64], out_buoy
         out_buoys,
         &mut count,
     );
-    print_string(n, out, out_buoys, count);
+    print_string(stdout, n, out, out_buoys, count);
 }
 
-fn walk_back(a: &[f64], buoys: &[u32], out: &mut [f64], out_buoys: &mut [u32]) {
+fn walk_back(
+    stdout: &impl Print,
+    a: &[f64],
+    buoys: &[u32],
+    out: &mut [f64],
+    out_buoys: &mut [u32],
+) {
     let mut count = NUMBER;
     let n = arcstring_c::walk::arcstring_walk_back(a, buoys, out, out_buoys, &mut count);
-    print_string(n, out, out_buoys, count);
+    print_string(stdout, n, out, out_buoys, count);
 }
 
-fn restart(q: Request, a: &[f64], buoys: &[u32], out: &mut [f64], out_buoys: &mut [u32]) {
+fn restart(
+    stdout: &impl Print,
+    q: Request,
+    a: &[f64],
+    buoys: &[u32],
+    out: &mut [f64],
+    out_buoys: &mut [u32],
+) {
     let mut count = NUMBER;
     let n = arcstring_c::walk::arcstring_restart(
         a,
@@ -52,10 +73,17 @@ fn restart(q: Request, a: &[f64], buoys: &[u32], out: &mut [f64], out_buoys: &mu
         out_buoys,
         &mut count,
     );
-    print_string(n, out, out_buoys, count);
+    print_string(stdout, n, out, out_buoys, count);
 }
 
-fn simplify(q: Request, a: &[f64], buoys: &[u32], out: &mut [f64], out_buoys: &mut [u32]) {
+fn simplify(
+    stdout: &impl Print,
+    q: Request,
+    a: &[f64],
+    buoys: &[u32],
+    out: &mut [f64],
+    out_buoys: &mut [u32],
+) {
     let mut count = NUMBER;
     let n = arcstring_c::simplify::arcstring_simplify(
         a,
@@ -65,10 +93,11 @@ fn simplify(q: Request, a: &[f64], buoys: &[u32], out: &mut [f64], out_buoys: &m
         out_buoys,
         &mut count,
     );
-    print_string(n, out, out_buoys, count);
+    print_string(stdout, n, out, out_buoys, count);
 }
 
 fn insert_vertices(
+    stdout: &impl Print,
     q: Request,
     a: &[f64],
     a_buoys: &[u32],
@@ -88,11 +117,12 @@ fn insert_vertices(
         out_buoys,
         &mut count,
     );
-    print_string(n, out, out_buoys, count);
+    print_string(stdout, n, out, out_buoys, count);
 }
 
 // The calls that are lent floats and buoys: 3 to 6, 18 and 19.
 fn write(
+    stdout: &impl Print,
     q: Request,
     a: &[f64],
     a_buoys: &[u32],
@@ -103,22 +133,30 @@ fn write(
 ) {
     let call = q.call;
     match call {
-        3 => return build(a, a_buoys, out, out_buoys),
-        4 => return build_flagged(q, a, a_buoys, out, out_buoys),
-        5 => return walk_back(a, a_buoys, out, out_buoys),
-        6 => return restart(q, a, a_buoys, out, out_buoys),
-        18 => return simplify(q, a, a_buoys, out, out_buoys),
-        _ => return insert_vertices(q, a, a_buoys, b, b_buoys, out, out_buoys),
+        3 => return build(stdout, a, a_buoys, out, out_buoys),
+        4 => return build_flagged(stdout, q, a, a_buoys, out, out_buoys),
+        5 => return walk_back(stdout, a, a_buoys, out, out_buoys),
+        6 => return restart(stdout, q, a, a_buoys, out, out_buoys),
+        18 => return simplify(stdout, q, a, a_buoys, out, out_buoys),
+        _ => return insert_vertices(stdout, q, a, a_buoys, b, b_buoys, out, out_buoys),
     }
 }
 
 // The same, with the floats and the buoys.
-pub(crate) fn written(q: Request, a: &[f64], a_buoys: &[u32], b: &[f64], b_buoys: &[u32]) {
+pub(crate) fn written(
+    stdout: &impl Print,
+    q: Request,
+    a: &[f64],
+    a_buoys: &[u32],
+    b: &[f64],
+    b_buoys: &[u32],
+) {
     let mut floats = [FLOAT; 256];
     let mut buoys = [BUOY; 256];
     let float_room = q.floats as usize;
     let buoy_room = q.buoys as usize;
     write(
+        stdout,
         q,
         a,
         a_buoys,
@@ -130,6 +168,7 @@ pub(crate) fn written(q: Request, a: &[f64], a_buoys: &[u32], b: &[f64], b_buoys
 }
 
 fn split_into(
+    stdout: &impl Print,
     q: Request,
     a: &[f64],
     a_buoys: &[u32],
@@ -153,16 +192,23 @@ fn split_into(
         flags,
         &mut pieces,
     );
-    print::print_returned(n);
-    print::print_floats(out);
-    print::print_buoys(out_buoys);
-    print::print_bytes(flags);
-    print::print_number(pieces);
-    print::print_numbers(counts);
+    print::print_returned(stdout, n);
+    print::print_floats(stdout, out);
+    print::print_buoys(stdout, out_buoys);
+    print::print_bytes(stdout, flags);
+    print::print_number(stdout, pieces);
+    print::print_numbers(stdout, counts);
 }
 
 // A string cut: lent floats, buoys, bytes and numbers.
-pub(crate) fn split(q: Request, a: &[f64], a_buoys: &[u32], b: &[f64], b_buoys: &[u32]) {
+pub(crate) fn split(
+    stdout: &impl Print,
+    q: Request,
+    a: &[f64],
+    a_buoys: &[u32],
+    b: &[f64],
+    b_buoys: &[u32],
+) {
     let mut floats = [FLOAT; 256];
     let mut buoys = [BUOY; 256];
     let mut bytes = [BYTE; 256];
@@ -172,6 +218,7 @@ pub(crate) fn split(q: Request, a: &[f64], a_buoys: &[u32], b: &[f64], b_buoys: 
     let byte_room = q.bytes as usize;
     let number_room = q.numbers as usize;
     split_into(
+        stdout,
         q,
         a,
         a_buoys,
@@ -185,6 +232,7 @@ pub(crate) fn split(q: Request, a: &[f64], a_buoys: &[u32], b: &[f64], b_buoys: 
 }
 
 fn cut_into(
+    stdout: &impl Print,
     q: Request,
     a: &[f64],
     a_buoys: &[u32],
@@ -206,15 +254,22 @@ fn cut_into(
         counts,
         &mut pieces,
     );
-    print::print_returned(n);
-    print::print_floats(out);
-    print::print_buoys(out_buoys);
-    print::print_number(pieces);
-    print::print_numbers(counts);
+    print::print_returned(stdout, n);
+    print::print_floats(stdout, out);
+    print::print_buoys(stdout, out_buoys);
+    print::print_number(stdout, pieces);
+    print::print_numbers(stdout, counts);
 }
 
 // A string cut at marks: lent floats, buoys and numbers.
-pub(crate) fn cut_at_marks(q: Request, a: &[f64], a_buoys: &[u32], b: &[f64], b_buoys: &[u32]) {
+pub(crate) fn cut_at_marks(
+    stdout: &impl Print,
+    q: Request,
+    a: &[f64],
+    a_buoys: &[u32],
+    b: &[f64],
+    b_buoys: &[u32],
+) {
     let mut floats = [FLOAT; 256];
     let mut buoys = [BUOY; 256];
     let mut numbers = [NUMBER; 256];
@@ -222,6 +277,7 @@ pub(crate) fn cut_at_marks(q: Request, a: &[f64], a_buoys: &[u32], b: &[f64], b_
     let buoy_room = q.buoys as usize;
     let number_room = q.numbers as usize;
     cut_into(
+        stdout,
         q,
         a,
         a_buoys,

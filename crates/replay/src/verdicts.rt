@@ -2,13 +2,14 @@
 use crate::lent::{BYTE, at, six};
 use crate::print;
 use crate::read::Request;
+use std::io::Print;
 
-fn print_verdict(n: u32, yes: u8) {
-    print::print_returned(n);
-    print::print_byte(yes);
+fn print_verdict(stdout: &impl Print, n: u32, yes: u8) {
+    print::print_returned(stdout, n);
+    print::print_byte(stdout, yes);
 }
 
-fn xyz_eq(a: &[f64]) {
+fn xyz_eq(stdout: &impl Print, a: &[f64]) {
     let mut yes = BYTE;
     let n = arcstring_c::point::arcstring_xyz_eq(
         at(a, 0),
@@ -19,10 +20,10 @@ fn xyz_eq(a: &[f64]) {
         at(a, 5),
         &mut yes,
     );
-    print_verdict(n, yes);
+    print_verdict(stdout, n, yes);
 }
 
-fn xyzs_coplanar(a: &[f64]) {
+fn xyzs_coplanar(stdout: &impl Print, a: &[f64]) {
     let mut yes = BYTE;
     let n = arcstring_c::point::arcstring_xyzs_coplanar(
         at(a, 0),
@@ -36,16 +37,16 @@ fn xyzs_coplanar(a: &[f64]) {
         at(a, 8),
         &mut yes,
     );
-    print_verdict(n, yes);
+    print_verdict(stdout, n, yes);
 }
 
-fn crosses_self(q: Request, a: &[f64]) {
+fn crosses_self(stdout: &impl Print, q: Request, a: &[f64]) {
     let mut yes = BYTE;
     let n = arcstring_c::with_self::arcstring_crosses_self(a, q.first_flag, &mut yes);
-    print_verdict(n, yes);
+    print_verdict(stdout, n, yes);
 }
 
-fn same_side(q: Request, a: &[f64], b: &[f64]) {
+fn same_side(stdout: &impl Print, q: Request, a: &[f64], b: &[f64]) {
     let mut yes = BYTE;
     let n = arcstring_c::listing::arcstring_same_side(
         at(a, 0),
@@ -58,10 +59,10 @@ fn same_side(q: Request, a: &[f64], b: &[f64]) {
         q.second_flag,
         &mut yes,
     );
-    print_verdict(n, yes);
+    print_verdict(stdout, n, yes);
 }
 
-fn along(q: Request, a: &[f64], b: &[f64], b_near: &[f64]) {
+fn along(stdout: &impl Print, q: Request, a: &[f64], b: &[f64], b_near: &[f64]) {
     let mut yes = BYTE;
     let n = arcstring_c::along::arcstring_along(
         at(a, 0),
@@ -72,17 +73,17 @@ fn along(q: Request, a: &[f64], b: &[f64], b_near: &[f64]) {
         q.second_flag,
         &mut yes,
     );
-    print_verdict(n, yes);
+    print_verdict(stdout, n, yes);
 }
 
-fn mark_on_leg(a: &[f64], b: &[f64]) {
+fn mark_on_leg(stdout: &impl Print, a: &[f64], b: &[f64]) {
     let leg = six(a);
     let mut yes = BYTE;
     let n = arcstring_c::mark::arcstring_mark_on_leg(&leg, at(b, 0), at(b, 1), at(b, 2), &mut yes);
-    print_verdict(n, yes);
+    print_verdict(stdout, n, yes);
 }
 
-fn mark_on_string(q: Request, a: &[f64], b: &[f64]) {
+fn mark_on_string(stdout: &impl Print, q: Request, a: &[f64], b: &[f64]) {
     let mut yes = BYTE;
     let n = arcstring_c::mark::arcstring_mark_on_string(
         at(a, 0),
@@ -92,24 +93,24 @@ fn mark_on_string(q: Request, a: &[f64], b: &[f64]) {
         q.second_flag,
         &mut yes,
     );
-    print_verdict(n, yes);
+    print_verdict(stdout, n, yes);
 }
 
 // The calls on points, on a leg and a mark, and on points and a string.
-pub(crate) fn on_string(q: Request, a: &[f64], b: &[f64], b_near: &[f64]) {
+pub(crate) fn on_string(stdout: &impl Print, q: Request, a: &[f64], b: &[f64], b_near: &[f64]) {
     let call = q.call;
     match call {
-        0 => xyz_eq(a),
-        1 => xyzs_coplanar(a),
-        13 => crosses_self(q, a),
-        14 => same_side(q, a, b),
-        28 => mark_on_leg(a, b),
-        29 => mark_on_string(q, a, b),
-        _ => along(q, a, b, b_near),
+        0 => xyz_eq(stdout, a),
+        1 => xyzs_coplanar(stdout, a),
+        13 => crosses_self(stdout, q, a),
+        14 => same_side(stdout, q, a, b),
+        28 => mark_on_leg(stdout, a, b),
+        29 => mark_on_string(stdout, q, a, b),
+        _ => along(stdout, q, a, b, b_near),
     }
 }
 
-fn eq(q: Request, a: &[f64], a_near: &[f64], b: &[f64], b_near: &[f64]) {
+fn eq(stdout: &impl Print, q: Request, a: &[f64], a_near: &[f64], b: &[f64], b_near: &[f64]) {
     let mut yes = BYTE;
     let n = arcstring_c::relation::arcstring_eq(
         a,
@@ -120,10 +121,10 @@ fn eq(q: Request, a: &[f64], a_near: &[f64], b: &[f64], b_near: &[f64]) {
         q.second_flag,
         &mut yes,
     );
-    print_verdict(n, yes);
+    print_verdict(stdout, n, yes);
 }
 
-fn equals(q: Request, a: &[f64], a_near: &[f64], b: &[f64], b_near: &[f64]) {
+fn equals(stdout: &impl Print, q: Request, a: &[f64], a_near: &[f64], b: &[f64], b_near: &[f64]) {
     let mut yes = BYTE;
     let n = arcstring_c::simplified::arcstring_equals(
         a,
@@ -134,10 +135,10 @@ fn equals(q: Request, a: &[f64], a_near: &[f64], b: &[f64], b_near: &[f64]) {
         q.second_flag,
         &mut yes,
     );
-    print_verdict(n, yes);
+    print_verdict(stdout, n, yes);
 }
 
-fn crosses(q: Request, a: &[f64], a_near: &[f64], b: &[f64], b_near: &[f64]) {
+fn crosses(stdout: &impl Print, q: Request, a: &[f64], a_near: &[f64], b: &[f64], b_near: &[f64]) {
     let mut yes = BYTE;
     let n = arcstring_c::relation::arcstring_crosses(
         a,
@@ -148,10 +149,10 @@ fn crosses(q: Request, a: &[f64], a_near: &[f64], b: &[f64], b_near: &[f64]) {
         q.second_flag,
         &mut yes,
     );
-    print_verdict(n, yes);
+    print_verdict(stdout, n, yes);
 }
 
-fn overlaps(q: Request, a: &[f64], a_near: &[f64], b: &[f64], b_near: &[f64]) {
+fn overlaps(stdout: &impl Print, q: Request, a: &[f64], a_near: &[f64], b: &[f64], b_near: &[f64]) {
     let mut yes = BYTE;
     let n = arcstring_c::simplified::arcstring_overlaps(
         a,
@@ -162,30 +163,37 @@ fn overlaps(q: Request, a: &[f64], a_near: &[f64], b: &[f64], b_near: &[f64]) {
         q.second_flag,
         &mut yes,
     );
-    print_verdict(n, yes);
+    print_verdict(stdout, n, yes);
 }
 
-fn within(q: Request, a: &[f64], b: &[f64], b_near: &[f64]) {
+fn within(stdout: &impl Print, q: Request, a: &[f64], b: &[f64], b_near: &[f64]) {
     let mut yes = BYTE;
     let n = arcstring_c::relation::arcstring_within(a, b, b_near, q.second_flag, &mut yes);
-    print_verdict(n, yes);
+    print_verdict(stdout, n, yes);
 }
 
-fn contains(q: Request, a: &[f64], a_near: &[f64], b: &[f64]) {
+fn contains(stdout: &impl Print, q: Request, a: &[f64], a_near: &[f64], b: &[f64]) {
     let mut yes = BYTE;
     let n = arcstring_c::relation::arcstring_contains(a, a_near, q.first_flag, b, &mut yes);
-    print_verdict(n, yes);
+    print_verdict(stdout, n, yes);
 }
 
 // The calls on two strings: 22 to 27. Each gives its verdict.
-pub(crate) fn relation(q: Request, a: &[f64], a_near: &[f64], b: &[f64], b_near: &[f64]) {
+pub(crate) fn relation(
+    stdout: &impl Print,
+    q: Request,
+    a: &[f64],
+    a_near: &[f64],
+    b: &[f64],
+    b_near: &[f64],
+) {
     let call = q.call;
     match call {
-        22 => eq(q, a, a_near, b, b_near),
-        23 => equals(q, a, a_near, b, b_near),
-        24 => crosses(q, a, a_near, b, b_near),
-        25 => overlaps(q, a, a_near, b, b_near),
-        26 => within(q, a, b, b_near),
-        _ => contains(q, a, a_near, b),
+        22 => eq(stdout, q, a, a_near, b, b_near),
+        23 => equals(stdout, q, a, a_near, b, b_near),
+        24 => crosses(stdout, q, a, a_near, b, b_near),
+        25 => overlaps(stdout, q, a, a_near, b, b_near),
+        26 => within(stdout, q, a, b, b_near),
+        _ => contains(stdout, q, a, a_near, b),
     }
 }

@@ -3,62 +3,63 @@
 use crate::lent::{FLOAT, NUMBER, at, six};
 use crate::print;
 use crate::read::Request;
+use std::io::Print;
 
-fn print_written(n: u32, out: &[f64], count: usize) {
-    print::print_returned(n);
-    print::print_floats(out);
-    print::print_number(count);
+fn print_written(stdout: &impl Print, n: u32, out: &[f64], count: usize) {
+    print::print_returned(stdout, n);
+    print::print_floats(stdout, out);
+    print::print_number(stdout, count);
 }
 
-pub(crate) fn point(a: &[f64]) {
+pub(crate) fn point(stdout: &impl Print, a: &[f64]) {
     let mut out = [FLOAT; 3];
     let n = arcstring_c::point::arcstring_point(at(a, 0), at(a, 1), at(a, 2), &mut out);
-    print::print_returned(n);
-    print::print_point(&out);
+    print::print_returned(stdout, n);
+    print::print_point(stdout, &out);
 }
 
 // A run returns nothing: 0 is printed for it.
-pub(crate) fn run(q: Request, a: &[f64]) {
+pub(crate) fn run(stdout: &impl Print, q: Request, a: &[f64]) {
     let mut start = NUMBER;
     let mut len = NUMBER;
     arcstring_c::walk::arcstring_run(a, q.first, q.second, &mut start, &mut len);
-    print::print_returned(0);
-    print::print_number(start);
-    print::print_number(len);
+    print::print_returned(stdout, 0);
+    print::print_number(stdout, start);
+    print::print_number(stdout, len);
 }
 
-fn turn_orientations(q: Request, a: &[f64], out: &mut [f64]) {
+fn turn_orientations(stdout: &impl Print, q: Request, a: &[f64], out: &mut [f64]) {
     let mut count = NUMBER;
     let n = arcstring_c::measure::arcstring_turn_orientations(a, q.first_flag, out, &mut count);
-    print_written(n, out, count);
+    print_written(stdout, n, out, count);
 }
 
-fn midpoints(q: Request, a: &[f64], out: &mut [f64]) {
+fn midpoints(stdout: &impl Print, q: Request, a: &[f64], out: &mut [f64]) {
     let mut count = NUMBER;
     let n = arcstring_c::measure::arcstring_midpoints(a, q.first_flag, out, &mut count);
-    print_written(n, out, count);
+    print_written(stdout, n, out, count);
 }
 
-fn split_leg(a: &[f64], b: &[f64], out: &mut [f64]) {
+fn split_leg(stdout: &impl Print, a: &[f64], b: &[f64], out: &mut [f64]) {
     let leg = six(a);
     let mut pieces = NUMBER;
     let n = arcstring_c::split_leg::arcstring_split_leg(&leg, b, out, &mut pieces);
-    print_written(n, out, pieces);
+    print_written(stdout, n, out, pieces);
 }
 
 // The calls that are lent floats: 15, 16 and 20.
-fn write(q: Request, a: &[f64], b: &[f64], out: &mut [f64]) {
+fn write(stdout: &impl Print, q: Request, a: &[f64], b: &[f64], out: &mut [f64]) {
     let call = q.call;
     match call {
-        15 => return turn_orientations(q, a, out),
-        16 => return midpoints(q, a, out),
-        _ => return split_leg(a, b, out),
+        15 => return turn_orientations(stdout, q, a, out),
+        16 => return midpoints(stdout, q, a, out),
+        _ => return split_leg(stdout, a, b, out),
     }
 }
 
 // The same, with the floats.
-pub(crate) fn written(q: Request, a: &[f64], b: &[f64]) {
+pub(crate) fn written(stdout: &impl Print, q: Request, a: &[f64], b: &[f64]) {
     let mut floats = [FLOAT; 256];
     let room = q.floats as usize;
-    write(q, a, b, &mut floats[..room]);
+    write(stdout, q, a, b, &mut floats[..room]);
 }

@@ -9,17 +9,18 @@
 // the input is read, and nothing else.
 //
 // A read that fails is no end of the input: nothing is printed then, and a line on standard error says so, as it does where a write fails.
-// The status is 0 all the same, since a program in Rattle has no other.
+// The status is 0 all the same.
 #![tactic(auto)]
 
 ghost use Rattle.std.specs.Prelude.{◌≡◌, length, take};
-ghost use Rattle.io.specs.Counts.{clamp_len};
 ghost use Rattle.textform.specs.Kept.{floats_kept};
+ghost use Rattle.textform.specs.Pieces.{clamp_len};
 ghost use Rattle.textform_season.specs.Kept.{report_room, held_season, SeasonSound, kept_fed};
 ghost use Rattle.season.specs.Input.{HeldWhole, PrintsWhole};
 
+use std::io::Read;
 use textform::inner::read::FLOATS_KEPT;
-use textform::inner::say;
+use textform::inner::{pieces, say};
 use textform_season::inner::read::Reading;
 use textform_season::inner::{read, report};
 
@@ -45,7 +46,8 @@ enum Said {
 }
 
 // One read, and what it gave fed, however little that is.
-fn read_some(
+fn read_some<R: Read>(
+    stdin: &mut R,
     r: Reading,
     bytes: &mut [u8],
     limit: &mut [f64],
@@ -57,22 +59,22 @@ fn read_some(
         ≡ kept_fed (held_season r limit.old track.old out.old)
         (take (clamp_len result.got (length bytes.old)) bytes.new)) }
 {
-    let got = libc::read(libc::STDIN_FILENO, bytes);
-    let n = io::count(got, bytes);
+    let got = pieces::read(stdin, bytes);
+    let n = pieces::count(got, bytes);
     let reading = read::feed(r, &bytes[..n], limit, track, out);
     Turn { reading, got }
 }
 
 // The input to its end. The loop counts its turns down, from a number that no run uses up, since a proved loop has to end.
-fn read_all(limit: &mut [f64], track: &mut [f64], out: &mut [u8]) -> Input
+fn read_all<R: Read>(stdin: &mut R, limit: &mut [f64], track: &mut [f64], out: &mut [u8]) -> Input
     requires { (length limit.old ≡ floats_kept) × (length track.old ≡ floats_kept) × (length out.old ≡ report_room) }
     ensures { HeldWhole result limit.new track.new out.new }
 {
-    let mut bytes = io::buffer();
+    let mut bytes = pieces::buffer();
     let mut reading = read::begin(out);
     let mut turns = u64::MAX;
     while turns > 0 {
-        let turn = read_some(reading, &mut bytes, limit, track, out);
+        let turn = read_some(stdin, reading, &mut bytes, limit, track, out);
         let got = turn.got;
         if got == 0 {
             return Input::Whole(turn);
@@ -87,24 +89,24 @@ fn read_all(limit: &mut [f64], track: &mut [f64], out: &mut [u8]) -> Input
 }
 
 // The input read, and what is printed for it at the start of `out`.
-fn read_and_report(out: &mut [u8]) -> Said
+fn read_and_report<R: Read>(stdin: &mut R, out: &mut [u8]) -> Said
     requires { length out.old ≡ report_room }
     ensures { PrintsWhole result out.new }
 {
     let mut limit = [0.0; FLOATS_KEPT];
     let mut track = [0.0; FLOATS_KEPT];
-    let input = read_all(&mut limit, &mut track, out);
+    let input = read_all(stdin, &mut limit, &mut track, out);
     match input {
         Input::Whole(last) => Said::Text(report::conclude(last.reading, &limit, &track, out)),
         Input::Failed => Said::Failed,
     }
 }
 
-fn main() {
+fn main(rt: HostRuntime) {
     let mut out = report::report_buffer();
-    let said = read_and_report(&mut out);
+    let said = read_and_report(&mut rt.stdin(), &mut out);
     match said {
-        Said::Text(n) => say::text(&out[..n]),
-        Said::Failed => say::failure(b"read failed\n"),
+        Said::Text(n) => say::text(&rt.stdout(), &rt.stderr(), &out[..n]),
+        Said::Failed => say::failure(&rt.stderr(), b"read failed\n"),
     }
 }

@@ -1,5 +1,5 @@
 // What the programs of this repository use: its functions ask for lists of certain lengths, which the programs lend.
-pub mod input;
+pub mod pieces;
 pub mod print;
 pub mod read;
 pub mod say;

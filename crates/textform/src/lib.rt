@@ -3,7 +3,7 @@
 // first column.
 //
 //     inner          for the programs of this repository
-//     inner::input   one read, and what it answered
+//     inner::pieces  one read, and what it answered
 //     inner::read    the machine over the bytes
 //     inner::print   texts, decimal numbers, the refusal line
 //     inner::say     text written, or a failure
