@@ -25,15 +25,15 @@ module _ (r q : Reader) (a b a' b' : List Float) (piece : List ℕ) (before : Re
   module _ (fed : held_state q a' b' ≡ fed_with keep (held_state r a b) piece) where
     pub one_more_lem : OneRead piece → ReadInPieces q a' b'
     unfolding kept_reading
-    one_more_lem size = pieces.fed-more (step_with keep) start (held_state r a b) (held_state q a' b') piece before sound fed size
+    one_more_lem size = pieces.fed_more (step_with keep) start (held_state r a b) (held_state q a' b') piece before sound fed size
 
     -- without a byte it changes nothing
     pub none_more : piece ≡ [] → ReadInPieces q a' b'
     unfolding kept_reading
-    none_more none = pieces.fed-none (step_with keep) start (held_state r a b) (held_state q a' b') piece before sound fed none
+    none_more none = pieces.fed_none (step_with keep) start (held_state r a b) (held_state q a' b') piece before sound fed none
 
 -- at the end
 pub read_and_printed : (r : Reader) (a b : List Float) (text : List ℕ) → ReadInPieces r a b → text ≡ printed (count_state (held_state r a b))
     → PrintedOfPieces text
 unfolding kept_reading
-read_and_printed r a b text all h = pieces.same-pieces all (λ bytes held. whole_output bytes text start (held_state r a b) refl held.1 h)
+read_and_printed r a b text all h = pieces.same_pieces all (λ bytes held. whole_output bytes text start (held_state r a b) refl held.1 h)

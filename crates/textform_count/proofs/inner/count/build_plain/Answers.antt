@@ -6,9 +6,9 @@ use borrow.Author.Rules.{rules}
 use Rattle.textform_count.proofs.inner.count.build_plain.Goals as goal
 
 pub slice_bounds-build-end : goal.slice_bounds-build-end
-slice_bounds-build-end c = sym (length-take-le _ _ (array-share-prefix-none c))
+slice_bounds-build-end c = sym (length-take-le _ _ (search rules))
 
 pub returns : goal.returns
 returns c =
-    let whole = plain_built c.args.v.now _ _ _ (sym (slice-aggregate-build c)) c.requires.1 refl _ c.args.out.now _ c.build.ensures.result_value c.build.ensures.out_after in
+    let whole = plain_built c.args.v.now _ _ _ (length-take-le _ _ (search rules)) c.requires.1 refl _ c.args.out.now _ c.build.ensures.result_value c.build.ensures.out_after in
     record { result_value = whole.0; out_after = whole.1 }

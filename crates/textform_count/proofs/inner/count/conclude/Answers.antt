@@ -3,15 +3,9 @@ use mathlib.Core.Path.{sym}
 use native.Mathlib.Omega.{arith}
 use lib.Seq.{length-take-le}
 use borrow.Author.Rules.{rules}
-use Rattle.textform.specs.Text.{State}
 use Rattle.textform.specs.Kept.{held_state}
 use Rattle.textform_count.proofs.inner.count.Concluded.{malformed-printed, conclusion_printed}
 use Rattle.textform_count.proofs.inner.count.conclude.Goals as goal
-use Rattle.textform_count.proofs.inner.count.conclude.Goals.{After-count_built-conclusion}
-
--- what was read, from the answer for it
-abbrev held : After-count_built-conclusion → State
-held c = held_state c.args.r c.args.a.now c.args.b.now
 
 pub returns-then-r-ne-ROW_START : goal.returns-then-r-ne-ROW_START
 returns-then-r-ne-ROW_START c =
@@ -31,8 +25,8 @@ count_built-conclusion-requires c = (
 
 pub returns-in-Refused : goal.returns-in-Refused
 returns-in-Refused c =
-    (conclusion_printed (held c.before.before.before.before.before.before.before) _ _ _ c.if-r-ne-ROW_START.false c.count_built-conclusion.ensures c.in-Refused.is c.print_refusal-in-Refused.ensures.0, c.print_refusal-in-Refused.ensures.1)
+    (conclusion_printed (held_state c.args.r c.args.a.now c.args.b.now) _ _ _ c.if-r-ne-ROW_START.false c.count_built-conclusion.ensures c.in-Refused.is c.print_refusal-in-Refused.ensures.0, c.print_refusal-in-Refused.ensures.1)
 
 pub returns-in-Counts : goal.returns-in-Counts
 returns-in-Counts c =
-    (conclusion_printed (held c.before.before.before.before.before.before.before) _ _ _ c.if-r-ne-ROW_START.false c.count_built-conclusion.ensures c.in-Counts.is c.print_counts.ensures.0, c.print_counts.ensures.1)
+    (conclusion_printed (held_state c.args.r c.args.a.now c.args.b.now) _ _ _ c.if-r-ne-ROW_START.false c.count_built-conclusion.ensures c.in-Counts.is c.print_counts.ensures.0, c.print_counts.ensures.1)
