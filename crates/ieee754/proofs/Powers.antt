@@ -1,11 +1,11 @@
 -- A division by a power of two is a multiplication by its inverse: both round the same fraction. For every format and all floats. Assumes nothing.
 use mathlib.Core.Path.{◌≡◌, refl, sym, ap, ◌∙◌}
-use mathlib.Core.Bool.{Bool, true, false, true≢false}
+use mathlib.Core.Bool.{false, true≢false}
 use Prim.Native.Nat.{ℕ, zero, suc, ◌*◌}
 use native.Mathlib.Nat.{mul_comm, one-mul}
 use lib.IntN.{ℤ, pos, negsuc, neg_ℤ}
-use lib.Ieee.{Float, nan, inf, fin, binary64, Format, up, down, unlike, round, mul, div, eq}
-use Rattle.ieee754.specs.PowerLaws.{power, DivPower, NotByInverse}
+use lib.Ieee.{Float, nan, inf, fin, binary64, up, down, unlike, round, mul, div, eq}
+use Rattle.ieee754.specs.PowerLaws.{DivPower, NotByInverse}
 
 -- 2 ^ e is up e / down e, and 2 ^ -e the same upside down
 up_inverse : (e : ℤ) → up (neg_ℤ e) ≡ down e

@@ -1,7 +1,6 @@
 -- `longer` meets its contract: each need is a fact of `Zimmermann`. Assumes nothing.
 use native.Mathlib.Omega.{arith}
 use Rattle.square_root.proofs.Zimmermann.{c_le, sh_le, divided_small, cc_small, rest_small, root_pos, root_kept, root_less}
-use borrow.Author.Rules.{rules}
 use Rattle.square_root.proofs.longer.Goals as goal
 
 pub overflow_mul-n-2 : goal.overflow_mul-n-2

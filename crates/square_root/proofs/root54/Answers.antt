@@ -3,7 +3,6 @@ use mathlib.Core.Path.{subst}
 use Prim.Native.Nat.{ℕ, ◌/◌, ◌^◌}
 use Rattle.square_root.specs.RootStep.{WholeRoot}
 use Rattle.square_root.proofs.Tower.{step_14, step_27, step_54, digits_28, digits_54}
-use borrow.Author.Rules.{rules}
 use Rattle.square_root.proofs.root54.Goals as goal
 
 pub longer-r14-requires : goal.longer-r14-requires

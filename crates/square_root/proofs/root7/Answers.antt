@@ -1,7 +1,6 @@
 -- `root7` meets its contract, by `Tower`. Assumes nothing.
 use native.Mathlib.Omega.{arith}
 use Rattle.square_root.proofs.Tower.{table_lt, next_square_small, next_root}
-use borrow.Author.Rules.{rules}
 use Rattle.square_root.proofs.root7.Goals as goal
 
 pub overflow_add-s : goal.overflow_add-s

@@ -9,7 +9,6 @@ use Rattle.square_root.specs.RootStep.{WholeRoot, significand_of}
 use Rattle.square_root.proofs.Patterns.{read}
 use Rattle.square_root.proofs.Placed.{Parts, parts_of, placed, placed_is, placed_ge, placed_le, zeros_ge, shift_le, field_ge, root54_lt, pattern_lt}
 use Rattle.square_root.proofs.Placed.{pattern_is}
-use borrow.Author.Rules.{rules}
 use Rattle.square_root.proofs.root_bits.Goals as goal
 
 pub overflow_sub-z : goal.overflow_sub-z

@@ -1,5 +1,4 @@
 -- `root_pattern` meets its contract: `root_bits` does, and near 1 `NearOne`. Assumes nothing.
-use borrow.Author.Rules.{rules}
 use native.Mathlib.Omega.{arith}
 use Rattle.square_root.proofs.NearOne.{near_one}
 use Rattle.square_root.proofs.root_pattern.Goals as goal

@@ -6,7 +6,6 @@ use native.Mathlib.Omega.{arith}
 use lib.Dec.{lit≤}
 use Rattle.square_root.proofs.WholeRoots.{root_lt}
 use Rattle.square_root.proofs.TableRule.{table_rule}
-use borrow.Author.Rules.{rules}
 use Rattle.square_root.proofs.table_root.Goals as goal
 
 abbrev roots : List (List ℕ)

@@ -28,7 +28,13 @@ slice_bounds-long-end c =
     )
 
 pub slice_bounds-equal_strings-end : goal.slice_bounds-equal_strings-end
-slice_bounds-equal_strings-end c = sym (length-take-le _ c.simplify_points-second.new.out (array-share-prefix-long c))
+slice_bounds-equal_strings-end c =
+    sym (length-take-le _ c.simplify_points-second.new.out (omega (
+      arith,
+      c.simplify_points-second.auto.out,
+      copy_count c.args.longer.now c.args.longer_near.now _ c.requires.2 _ _ _ c.simplify_points-second.ensures.result_value c.simplify_points-second.ensures.out_after _
+          c.in-Vertices.is,
+    )))
 
 pub equal_strings-requires-in-Vertices : goal.equal_strings-requires-in-Vertices
 equal_strings-requires-in-Vertices c = (

@@ -25,7 +25,13 @@ slice_bounds-short-end c =
     )
 
 pub slice_bounds-equals_longer-end : goal.slice_bounds-equals_longer-end
-slice_bounds-equals_longer-end c = sym (length-take-le _ c.simplify_points-first.new.out (array-share-prefix-short c))
+slice_bounds-equals_longer-end c =
+    sym (length-take-le _ c.simplify_points-first.new.out (omega (
+      arith,
+      c.simplify_points-first.auto.out,
+      copy_count c.args.shorter.now c.args.shorter.now _ c.requires.0 _ _ _ c.simplify_points-first.ensures.result_value c.simplify_points-first.ensures.out_after _
+          c.in-Vertices.is,
+    )))
 
 pub equals_longer-requires : goal.equals_longer-requires
 equals_longer-requires c = (

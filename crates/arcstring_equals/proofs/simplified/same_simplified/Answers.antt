@@ -27,7 +27,12 @@ slice_bounds-simple_a-end c =
 pub slice_bounds-equals_strings-end : goal.slice_bounds-equals_strings-end
 slice_bounds-equals_strings-end c =
     sym (length-take-le _ c.simplify_points-first.new.out
-    (array-share-prefix-simple-a c))
+    (omega (
+      arith,
+      c.simplify_points-first.auto.out,
+      copy_count c.args.a.now c.args.a.now _ c.requires.0 _ _ _ c.simplify_points-first.ensures.result_value c.simplify_points-first.ensures.out_after _
+          c.in-Vertices.is,
+    )))
 
 pub slice_bounds-simple_b-end : goal.slice_bounds-simple_b-end
 slice_bounds-simple_b-end c =
@@ -39,7 +44,13 @@ slice_bounds-simple_b-end c =
     )
 
 pub slice_bounds-equals_strings-end-in-Vertices-second : goal.slice_bounds-equals_strings-end-in-Vertices-second
-slice_bounds-equals_strings-end-in-Vertices-second c = sym (length-take-le _ c.simplify_points-second.new.out (array-share-prefix-simple-b c))
+slice_bounds-equals_strings-end-in-Vertices-second c =
+    sym (length-take-le _ c.simplify_points-second.new.out (omega (
+      arith,
+      c.simplify_points-second.auto.out,
+      copy_count c.args.b.now c.args.b.now _ c.requires.1 _ _ _ c.simplify_points-second.ensures.result_value c.simplify_points-second.ensures.out_after _
+          c.in-Vertices-second.is,
+    )))
 
 pub equals_strings-requires : goal.equals_strings-requires
 equals_strings-requires c = (
