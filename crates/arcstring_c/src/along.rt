@@ -5,10 +5,6 @@ ghost use Rattle.arcstring.specs.Points.{point};
 ghost use Rattle.arcstring_along.specs.OnString.{along};
 ghost use Rattle.arcstring_put.specs.Put.{answer_number, left_in, flag};
 
-use arcstring_along::on_string;
-use arcstring_put::inner::{lent, put};
-use sphericalpoint::SphericalPoint;
-
 #[unsafe(no_mangle)]
 pub extern "C" fn arcstring_along(
     x: f64,
@@ -22,7 +18,5 @@ pub extern "C" fn arcstring_along(
     ensures value { result ≡ answer_number (along (point x y z) v.now near.now (flag closed)) }
     ensures yes_after { yes.new ≡ left_in flag_number (along (point x y z) v.now near.now (flag closed)) yes.old }
 {
-    let p = SphericalPoint::new(x, y, z);
-    let r = on_string::point_is_along_arcstring(p, v, near, lent::is_closed(closed));
-    put::put_verdict(r, yes)
+    arcstring_calls::along::arcstring_along(x, y, z, v, near, closed, yes)
 }

@@ -3,10 +3,7 @@ ghost use Rattle.std.specs.Prelude.{◌≡◌, length};
 ghost use Rattle.arcstring_check.specs.Answer.{leaves};
 ghost use Rattle.arcstring_build.specs.Build.{build, build_flagged, built_floats, built_buoys};
 ghost use Rattle.arcstring_put.specs.Put.{answer_number, left_in, flag};
-ghost use Rattle.arcstring_c.specs.Numbers.{vertex_count, closed_byte};
-
-use arcstring_build::build;
-use arcstring_put::inner::{lent, put};
+ghost use Rattle.arcstring_calls.specs.Numbers.{vertex_count, closed_byte};
 
 #[unsafe(no_mangle)]
 pub extern "C" fn arcstring_build(
@@ -28,8 +25,7 @@ pub extern "C" fn arcstring_build(
     ensures closed_after { closed.new ≡ left_in closed_byte
         (build points.now buoys.now (length out.old) (length out_buoys.old)) closed.old }
 {
-    let r = build::build(points, buoys, out, out_buoys);
-    put::put_built(r, count, closed)
+    arcstring_calls::build::arcstring_build(points, buoys, out, out_buoys, count, closed)
 }
 
 #[unsafe(no_mangle)]
@@ -53,6 +49,5 @@ pub extern "C" fn arcstring_build_flagged(
         (build_flagged points.now buoys.now (flag closed) (length out.old) (length out_buoys.old))
         count.old }
 {
-    let r = build::build_flagged(points, buoys, lent::is_closed(closed), out, out_buoys);
-    put::put_built_count(r, count)
+    arcstring_calls::build::arcstring_build_flagged(points, buoys, closed, out, out_buoys, count)
 }

@@ -4,10 +4,6 @@ ghost use Rattle.arcstring_pair.specs.Pair.{arcs_crossing};
 ghost use Rattle.arcstring_put.specs.Put.{answer_number, left_in, leg_of_six};
 ghost use Rattle.arcstring_put_found.specs.PutFound.{class_byte, kept_byte, point_place};
 
-use arcstring_crossing::crossing;
-use arcstring_put::inner::lent;
-use arcstring_put_found::inner::pair;
-
 #[unsafe(no_mangle)]
 pub extern "C" fn arcstring_pair(
     a: &[f64; 6],
@@ -22,6 +18,5 @@ pub extern "C" fn arcstring_pair(
     ensures point_after { point.new ≡ left_in (point_place point.old) (arcs_crossing (leg_of_six a.now) (leg_of_six b.now))
         point.old }
 {
-    let r = crossing::arcs_crossing(lent::leg_of_six(a), lent::leg_of_six(b));
-    pair::put_pair(r, class_, kept, point)
+    arcstring_calls::crossing::arcstring_pair(a, b, class_, kept, point)
 }

@@ -5,9 +5,6 @@ ghost use Rattle.arcstring.specs.Written.{written_floats, without_buoys, written
 ghost use Rattle.arcstring_insert.specs.Insert.{insert_vertices};
 ghost use Rattle.arcstring_put.specs.Put.{answer_number, left_in, flag};
 
-use arcstring_insert::insert;
-use arcstring_put::inner::{lent, put};
-
 #[unsafe(no_mangle)]
 pub extern "C" fn arcstring_insert_vertices(
     v: &[f64],
@@ -31,7 +28,14 @@ pub extern "C" fn arcstring_insert_vertices(
         (insert_vertices v.now buoys.now (flag closed) points.now point_buoys.now (length out.old)
         (length out_buoys.old)) count.old }
 {
-    let flag = lent::is_closed(closed);
-    let r = insert::insert_vertices(v, buoys, flag, points, point_buoys, out, out_buoys);
-    put::put_count(r, count)
+    arcstring_calls::insert::arcstring_insert_vertices(
+        v,
+        buoys,
+        closed,
+        points,
+        point_buoys,
+        out,
+        out_buoys,
+        count,
+    )
 }

@@ -1,7 +1,8 @@
 // The calls of the string layer for C programs, and whatever links C. Each returns 0 or the number of the refusal, and
 // then changes nothing that it was lent. Lists are flat, three floats a point, each with its length in floats; a flag
 // is 0 for open and anything else for closed. include/arcstring.h documents each call. What is lent is read, and what is
-// answered is put into its places, by the crates arcstring_put and arcstring_put_found. A module for each crate below whose calls it exports:
+// answered is put into its places, by the crates arcstring_put and arcstring_put_found. The calls are those of arcstring_calls, and here only
+// exported, since a static library can be no library for other crates. A module for each crate below whose calls it exports:
 //
 //     point       points: equal, in a plane, of coordinates (arcstring_point)
 //     build       a string of points

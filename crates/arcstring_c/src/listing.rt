@@ -6,12 +6,7 @@ ghost use Rattle.arcstring.specs.Leg.{leg};
 ghost use Rattle.arcstring_listing.specs.Listing.{counted, crossings, leg_crossings, same_side, listed_floats, listed_bytes};
 ghost use Rattle.arcstring_put.specs.Put.{answer_number, left_in, flag, leg_of_six};
 ghost use Rattle.arcstring_put_found.specs.PutFound.{four_counts};
-ghost use Rattle.arcstring_c.specs.Numbers.{kept_count, listing_counts};
-
-use arcstring_listing::listing;
-use arcstring_put::inner::{lent, put};
-use arcstring_put_found::inner::found;
-use sphericalpoint::SphericalPoint;
+ghost use Rattle.arcstring_calls.specs.Numbers.{kept_count, listing_counts};
 
 #[unsafe(no_mangle)]
 pub extern "C" fn arcstring_count(
@@ -26,14 +21,7 @@ pub extern "C" fn arcstring_count(
     ensures counts_after { counts.new ≡ left_in four_counts (counted a.now (flag a_closed) b.now (flag b_closed) margin)
         counts.old }
 {
-    let r = listing::count(
-        a,
-        lent::is_closed(a_closed),
-        b,
-        lent::is_closed(b_closed),
-        margin,
-    );
-    found::put_counts(r, counts)
+    arcstring_calls::listing::arcstring_count(a, a_closed, b, b_closed, margin, counts)
 }
 
 #[unsafe(no_mangle)]
@@ -64,16 +52,9 @@ pub extern "C" fn arcstring_leg_crossings(
         (leg_crossings (leg_of_six leg.now) v.now (flag closed) margin (length points.old) (length marks.old))
         counts.old }
 {
-    let arc = lent::leg_of_six(leg);
-    let r = listing::arc_crossings_with_arcstring(
-        arc,
-        v,
-        lent::is_closed(closed),
-        margin,
-        points,
-        marks,
-    );
-    found::put_listing(r, kept, counts)
+    arcstring_calls::listing::arcstring_leg_crossings(
+        leg, v, closed, margin, points, marks, kept, counts,
+    )
 }
 
 #[unsafe(no_mangle)]
@@ -103,10 +84,9 @@ pub extern "C" fn arcstring_crossings(
         (crossings a.now (flag a_closed) b.now (flag b_closed) margin (length points.old) (length marks.old))
         counts.old }
 {
-    let first = lent::is_closed(a_closed);
-    let second = lent::is_closed(b_closed);
-    let r = listing::crossings(a, first, b, second, margin, points, marks);
-    found::put_listing(r, kept, counts)
+    arcstring_calls::listing::arcstring_crossings(
+        a, a_closed, b, b_closed, margin, points, marks, kept, counts,
+    )
 }
 
 #[unsafe(no_mangle)]
@@ -125,8 +105,5 @@ pub extern "C" fn arcstring_same_side(
     ensures yes_after { yes.new ≡ left_in flag_number (same_side (leg (point ax ay az) (point bx «by» bz)) v.now (flag closed))
         yes.old }
 {
-    let a = SphericalPoint::new(ax, ay, az);
-    let b = SphericalPoint::new(bx, by, bz);
-    let r = listing::points_are_on_same_side(a, b, v, lent::is_closed(closed));
-    put::put_verdict(r, yes)
+    arcstring_calls::listing::arcstring_same_side(ax, ay, az, bx, by, bz, v, closed, yes)
 }

@@ -7,21 +7,14 @@ ghost use Rattle.arcstring_split_leg.specs.SplitLeg.{of_pieces};
 ghost use Rattle.arcstring_mark.specs.Mark.{on_leg, on_string};
 ghost use Rattle.arcstring_mark_cut.specs.CutAtMarks.{cut_at_marks};
 ghost use Rattle.arcstring_put.specs.Put.{answer_number, left_in, flag, leg_of_six};
-ghost use Rattle.arcstring_c.specs.Numbers.{pieces_written};
-
-use arcstring_mark::mark;
-use arcstring_mark_cut::cut;
-use arcstring_put::inner::{lent, put};
-use arcstring_put_found::inner::found;
-use sphericalpoint::SphericalPoint;
+ghost use Rattle.arcstring_calls.specs.Numbers.{pieces_written};
 
 #[unsafe(no_mangle)]
 pub extern "C" fn arcstring_mark_on_leg(leg: &[f64; 6], x: f64, y: f64, z: f64, yes: &mut u8) -> u32
     ensures value { result ≡ answer_number (on_leg (leg_of_six leg.now) (point x y z)) }
     ensures yes_after { yes.new ≡ left_in flag_number (on_leg (leg_of_six leg.now) (point x y z)) yes.old }
 {
-    let r = mark::mark_on_leg(lent::leg_of_six(leg), SphericalPoint::new(x, y, z));
-    put::put_verdict(r, yes)
+    arcstring_calls::mark::arcstring_mark_on_leg(leg, x, y, z, yes)
 }
 
 #[unsafe(no_mangle)]
@@ -36,9 +29,7 @@ pub extern "C" fn arcstring_mark_on_string(
     ensures value { result ≡ answer_number (on_string (point x y z) v.now (flag closed)) }
     ensures yes_after { yes.new ≡ left_in flag_number (on_string (point x y z) v.now (flag closed)) yes.old }
 {
-    let p = SphericalPoint::new(x, y, z);
-    let r = mark::mark_on_string(p, v, lent::is_closed(closed));
-    put::put_verdict(r, yes)
+    arcstring_calls::mark::arcstring_mark_on_string(x, y, z, v, closed, yes)
 }
 
 #[unsafe(no_mangle)]
@@ -71,15 +62,15 @@ pub extern "C" fn arcstring_cut_at_marks(
         (cut_at_marks v.now buoys.now (flag closed) points.now point_buoys.now (length out.old)
         (length out_buoys.old) (length counts.old)) pieces.old }
 {
-    let r = cut::cut_at_marks(
+    arcstring_calls::mark::arcstring_cut_at_marks(
         v,
         buoys,
-        lent::is_closed(closed),
+        closed,
         points,
         point_buoys,
         out,
         out_buoys,
         counts,
-    );
-    found::put_pieces(r, pieces)
+        pieces,
+    )
 }

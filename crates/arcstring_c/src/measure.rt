@@ -5,9 +5,6 @@ ghost use Rattle.arcstring.specs.Written.{written_floats};
 ghost use Rattle.arcstring_measure.specs.Measure.{turn_orientations, midpoints};
 ghost use Rattle.arcstring_put.specs.Put.{answer_number, left_in, flag};
 
-use arcstring_measure::measure;
-use arcstring_put::inner::{lent, put};
-
 #[unsafe(no_mangle)]
 pub extern "C" fn arcstring_turn_orientations(
     v: &[f64],
@@ -19,8 +16,7 @@ pub extern "C" fn arcstring_turn_orientations(
     ensures out_after { out.new ≡ leaves (turn_orientations v.now (flag closed) (length out.old)) out.old }
     ensures count_after { count.new ≡ left_in length (turn_orientations v.now (flag closed) (length out.old)) count.old }
 {
-    let r = measure::xyzs_turn_orientations(v, lent::is_closed(closed), out);
-    put::put_count(r, count)
+    arcstring_calls::measure::arcstring_turn_orientations(v, closed, out, count)
 }
 
 #[unsafe(no_mangle)]
@@ -34,6 +30,5 @@ pub extern "C" fn arcstring_midpoints(
     ensures out_after { out.new ≡ leaves (written_floats (midpoints v.now (flag closed) (length out.old))) out.old }
     ensures count_after { count.new ≡ left_in length (midpoints v.now (flag closed) (length out.old)) count.old }
 {
-    let r = measure::midpoints(v, lent::is_closed(closed), out);
-    put::put_count(r, count)
+    arcstring_calls::measure::arcstring_midpoints(v, closed, out, count)
 }

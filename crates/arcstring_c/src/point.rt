@@ -5,10 +5,6 @@ ghost use Rattle.arcstring.specs.Points.{point};
 ghost use Rattle.arcstring_point.specs.Point.{equal_points, coplanar_points, built_point};
 ghost use Rattle.arcstring_put.specs.Put.{answer_number, left_in, three_floats};
 
-use arcstring_point::point;
-use arcstring_put::inner::put;
-use sphericalpoint::SphericalPoint;
-
 #[unsafe(no_mangle)]
 pub extern "C" fn arcstring_xyz_eq(
     ax: f64,
@@ -22,9 +18,7 @@ pub extern "C" fn arcstring_xyz_eq(
     ensures value { result ≡ answer_number (equal_points (point ax ay az) (point bx «by» bz)) }
     ensures yes_after { yes.new ≡ left_in flag_number (equal_points (point ax ay az) (point bx «by» bz)) yes.old }
 {
-    let a = SphericalPoint::new(ax, ay, az);
-    let b = SphericalPoint::new(bx, by, bz);
-    put::put_verdict(point::xyz_eq(a, b), yes)
+    arcstring_calls::point::arcstring_xyz_eq(ax, ay, az, bx, by, bz, yes)
 }
 
 #[unsafe(no_mangle)]
@@ -43,10 +37,7 @@ pub extern "C" fn arcstring_xyzs_coplanar(
     ensures value { result ≡ answer_number (coplanar_points (point ax ay az) (point bx «by» bz) (point cx cy cz)) }
     ensures yes_after { yes.new ≡ left_in flag_number (coplanar_points (point ax ay az) (point bx «by» bz) (point cx cy cz)) yes.old }
 {
-    let a = SphericalPoint::new(ax, ay, az);
-    let b = SphericalPoint::new(bx, by, bz);
-    let c = SphericalPoint::new(cx, cy, cz);
-    put::put_verdict(point::xyzs_coplanar(a, b, c), yes)
+    arcstring_calls::point::arcstring_xyzs_coplanar(ax, ay, az, bx, by, bz, cx, cy, cz, yes)
 }
 
 #[unsafe(no_mangle)]
@@ -54,6 +45,5 @@ pub extern "C" fn arcstring_point(x: f64, y: f64, z: f64, out: &mut [f64; 3]) ->
     ensures value { result ≡ answer_number (built_point (point x y z)) }
     ensures out_after { out.new ≡ left_in three_floats (built_point (point x y z)) out.old }
 {
-    let p = SphericalPoint::new(x, y, z);
-    put::put_point(point::point_from(p), out)
+    arcstring_calls::point::arcstring_point(x, y, z, out)
 }

@@ -4,9 +4,6 @@ ghost use Rattle.arcstring_check.specs.Answer.{flag_number};
 ghost use Rattle.arcstring_relation.specs.Relation.{equal, crosses, within, contains};
 ghost use Rattle.arcstring_put.specs.Put.{answer_number, left_in, flag};
 
-use arcstring_put::inner::{lent, put};
-use arcstring_relation::relation;
-
 #[unsafe(no_mangle)]
 pub extern "C" fn arcstring_eq(
     a: &[f64],
@@ -22,9 +19,7 @@ pub extern "C" fn arcstring_eq(
     ensures yes_after { yes.new ≡ left_in flag_number
         (equal a.now a_near.now (flag a_closed) b.now b_near.now (flag b_closed)) yes.old }
 {
-    let first = lent::is_closed(a_closed);
-    let second = lent::is_closed(b_closed);
-    put::put_verdict(relation::eq(a, a_near, first, b, b_near, second), yes)
+    arcstring_calls::relation::arcstring_eq(a, a_near, a_closed, b, b_near, b_closed, yes)
 }
 
 #[unsafe(no_mangle)]
@@ -42,9 +37,7 @@ pub extern "C" fn arcstring_crosses(
     ensures yes_after { yes.new ≡ left_in flag_number
         (crosses a.now a_near.now (flag a_closed) b.now b_near.now (flag b_closed)) yes.old }
 {
-    let first = lent::is_closed(a_closed);
-    let second = lent::is_closed(b_closed);
-    put::put_verdict(relation::crosses(a, a_near, first, b, b_near, second), yes)
+    arcstring_calls::relation::arcstring_crosses(a, a_near, a_closed, b, b_near, b_closed, yes)
 }
 
 #[unsafe(no_mangle)]
@@ -59,10 +52,7 @@ pub extern "C" fn arcstring_within(
     ensures yes_after { yes.new ≡ left_in flag_number (within a.now b.now b_near.now (flag b_closed))
         yes.old }
 {
-    put::put_verdict(
-        relation::within(a, b, b_near, lent::is_closed(b_closed)),
-        yes,
-    )
+    arcstring_calls::relation::arcstring_within(a, b, b_near, b_closed, yes)
 }
 
 #[unsafe(no_mangle)]
@@ -77,8 +67,5 @@ pub extern "C" fn arcstring_contains(
     ensures yes_after { yes.new ≡ left_in flag_number (contains a.now a_near.now (flag a_closed) b.now)
         yes.old }
 {
-    put::put_verdict(
-        relation::contains(a, a_near, lent::is_closed(a_closed), b),
-        yes,
-    )
+    arcstring_calls::relation::arcstring_contains(a, a_near, a_closed, b, yes)
 }

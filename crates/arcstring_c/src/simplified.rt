@@ -4,9 +4,6 @@ ghost use Rattle.arcstring_check.specs.Answer.{flag_number};
 ghost use Rattle.arcstring_equals.specs.Simplified.{equals, overlaps};
 ghost use Rattle.arcstring_put.specs.Put.{answer_number, left_in, flag};
 
-use arcstring_equals::simplified;
-use arcstring_put::inner::{lent, put};
-
 #[unsafe(no_mangle)]
 pub extern "C" fn arcstring_equals(
     a: &[f64],
@@ -22,9 +19,7 @@ pub extern "C" fn arcstring_equals(
     ensures yes_after { yes.new ≡ left_in flag_number
         (equals a.now a_near.now (flag a_closed) b.now b_near.now (flag b_closed)) yes.old }
 {
-    let first = lent::is_closed(a_closed);
-    let second = lent::is_closed(b_closed);
-    put::put_verdict(simplified::equals(a, a_near, first, b, b_near, second), yes)
+    arcstring_calls::simplified::arcstring_equals(a, a_near, a_closed, b, b_near, b_closed, yes)
 }
 
 #[unsafe(no_mangle)]
@@ -42,10 +37,5 @@ pub extern "C" fn arcstring_overlaps(
     ensures yes_after { yes.new ≡ left_in flag_number
         (overlaps a.now a_near.now (flag a_closed) b.now b_near.now (flag b_closed)) yes.old }
 {
-    let first = lent::is_closed(a_closed);
-    let second = lent::is_closed(b_closed);
-    put::put_verdict(
-        simplified::overlaps(a, a_near, first, b, b_near, second),
-        yes,
-    )
+    arcstring_calls::simplified::arcstring_overlaps(a, a_near, a_closed, b, b_near, b_closed, yes)
 }

@@ -5,9 +5,6 @@ ghost use Rattle.arcstring.specs.Written.{written_floats, without_buoys, written
 ghost use Rattle.arcstring_simplify.specs.Simplify.{simplify};
 ghost use Rattle.arcstring_put.specs.Put.{answer_number, left_in, flag};
 
-use arcstring_put::inner::{lent, put};
-use arcstring_simplify::simplify;
-
 #[unsafe(no_mangle)]
 pub extern "C" fn arcstring_simplify(
     v: &[f64],
@@ -28,6 +25,5 @@ pub extern "C" fn arcstring_simplify(
     ensures count_after { count.new ≡ left_in length
         (simplify v.now buoys.now (flag closed) (length out.old) (length out_buoys.old)) count.old }
 {
-    let r = simplify::simplify(v, buoys, lent::is_closed(closed), out, out_buoys);
-    put::put_count(r, count)
+    arcstring_calls::simplify::arcstring_simplify(v, buoys, closed, out, out_buoys, count)
 }

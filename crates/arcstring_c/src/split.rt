@@ -5,11 +5,7 @@ ghost use Rattle.arcstring_split_leg.specs.SplitLeg.{of_pieces};
 ghost use Rattle.arcstring.specs.Written.{piece_floats, piece_buoys, piece_counts};
 ghost use Rattle.arcstring_split.specs.Split.{split_string, piece_flags};
 ghost use Rattle.arcstring_put.specs.Put.{answer_number, left_in, flag};
-ghost use Rattle.arcstring_c.specs.Numbers.{pieces_written};
-
-use arcstring_put::inner::lent;
-use arcstring_put_found::inner::found;
-use arcstring_split::split;
+ghost use Rattle.arcstring_calls.specs.Numbers.{pieces_written};
 
 #[unsafe(no_mangle)]
 pub extern "C" fn arcstring_split(
@@ -45,16 +41,16 @@ pub extern "C" fn arcstring_split(
         (split_string v.now buoys.now (flag closed) points.now point_buoys.now (length out.old)
         (length out_buoys.old) (length counts.old) (length flags.old)) pieces.old }
 {
-    let r = split::split_arcstring_at_points(
+    arcstring_calls::split::arcstring_split(
         v,
         buoys,
-        lent::is_closed(closed),
+        closed,
         points,
         point_buoys,
         out,
         out_buoys,
         counts,
         flags,
-    );
-    found::put_pieces(r, pieces)
+        pieces,
+    )
 }

@@ -3,11 +3,7 @@ ghost use Rattle.std.specs.Prelude.{◌≡◌, length};
 ghost use Rattle.arcstring_check.specs.Answer.{leaves, map_answer};
 ghost use Rattle.arcstring_split_leg.specs.SplitLeg.{split_leg, of_pieces, leg_floats};
 ghost use Rattle.arcstring_put.specs.Put.{answer_number, left_in, leg_of_six};
-ghost use Rattle.arcstring_c.specs.Numbers.{pieces_written};
-
-use arcstring_put::inner::lent;
-use arcstring_put_found::inner::found;
-use arcstring_split_leg::split;
+ghost use Rattle.arcstring_calls.specs.Numbers.{pieces_written};
 
 #[unsafe(no_mangle)]
 pub extern "C" fn arcstring_split_leg(
@@ -22,6 +18,5 @@ pub extern "C" fn arcstring_split_leg(
     ensures pieces_after { pieces.new ≡ left_in pieces_written (split_leg (leg_of_six leg.now) points.now (length out.old))
         pieces.old }
 {
-    let r = split::split_arc_at_points(lent::leg_of_six(leg), points, out);
-    found::put_pieces(r, pieces)
+    arcstring_calls::split_leg::arcstring_split_leg(leg, points, out, pieces)
 }

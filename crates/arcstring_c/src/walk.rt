@@ -4,10 +4,7 @@ ghost use Rattle.arcstring_check.specs.Answer.{leaves, pick};
 ghost use Rattle.arcstring.specs.Written.{written_floats, without_buoys, written_buoys};
 ghost use Rattle.arcstring_walk.specs.Walk.{walk_back, restart};
 ghost use Rattle.arcstring_put.specs.Put.{answer_number, left_in, flag};
-ghost use Rattle.arcstring_c.specs.Numbers.{run_length, run_start};
-
-use arcstring_put::inner::{lent, put};
-use arcstring_walk::walk;
+ghost use Rattle.arcstring_calls.specs.Numbers.{run_length, run_start};
 
 #[unsafe(no_mangle)]
 pub extern "C" fn arcstring_walk_back(
@@ -27,8 +24,7 @@ pub extern "C" fn arcstring_walk_back(
     ensures count_after { count.new ≡ left_in length
         (walk_back v.now buoys.now (length out.old) (length out_buoys.old)) count.old }
 {
-    let r = walk::walk_back(v, buoys, out, out_buoys);
-    put::put_count(r, count)
+    arcstring_calls::walk::arcstring_walk_back(v, buoys, out, out_buoys, count)
 }
 
 #[unsafe(no_mangle)]
@@ -53,16 +49,7 @@ pub extern "C" fn arcstring_restart(
         (restart v.now buoys.now (flag closed) at (length out.old) (length out_buoys.old))
         count.old }
 {
-    let r = walk::restart(v, buoys, lent::is_closed(closed), at, out, out_buoys);
-    put::put_count(r, count)
-}
-
-// Where a run of so many floats starts in the list.
-fn run_start(n: usize, from: usize) -> usize
-    requires { (n ≡ 0 → ⊥) → 3 * from < 2 ^ 64 }
-    ensures { result ≡ pick (eqb n 0) 0 (3 * from) }
-{
-    if n == 0 { 0 } else { 3 * from }
+    arcstring_calls::walk::arcstring_restart(v, buoys, closed, at, out, out_buoys, count)
 }
 
 #[unsafe(no_mangle)]
@@ -76,8 +63,5 @@ pub extern "C" fn arcstring_run(
     ensures start_after { start.new ≡ run_start v.now from to }
     ensures len_after { len.new ≡ run_length v.now from to }
 {
-    let part = walk::run(v, from, to);
-    let n = part.len();
-    *len = n;
-    *start = run_start(n, from);
+    arcstring_calls::walk::arcstring_run(v, from, to, start, len)
 }

@@ -4,11 +4,7 @@ ghost use Rattle.arcstring_check.specs.Answer.{leaves, flag_number};
 ghost use Rattle.arcstring_listing.specs.Listing.{listed_floats, listed_bytes};
 ghost use Rattle.arcstring_self.specs.SelfListing.{self_crossings, crosses_self};
 ghost use Rattle.arcstring_put.specs.Put.{answer_number, left_in, flag};
-ghost use Rattle.arcstring_c.specs.Numbers.{kept_count, listing_counts};
-
-use arcstring_put::inner::{lent, put};
-use arcstring_put_found::inner::found;
-use arcstring_self::with_self;
+ghost use Rattle.arcstring_calls.specs.Numbers.{kept_count, listing_counts};
 
 #[unsafe(no_mangle)]
 pub extern "C" fn arcstring_crossings_with_self(
@@ -32,8 +28,9 @@ pub extern "C" fn arcstring_crossings_with_self(
         (self_crossings v.now margin (length points.old) (length marks.old))
         counts.old }
 {
-    let r = with_self::crossings_with_self(v, margin, points, marks);
-    found::put_listing(r, kept, counts)
+    arcstring_calls::with_self::arcstring_crossings_with_self(
+        v, margin, points, marks, kept, counts,
+    )
 }
 
 #[unsafe(no_mangle)]
@@ -41,5 +38,5 @@ pub extern "C" fn arcstring_crosses_self(v: &[f64], closed: u8, yes: &mut u8) ->
     ensures value { result ≡ answer_number (crosses_self v.now (flag closed)) }
     ensures yes_after { yes.new ≡ left_in flag_number (crosses_self v.now (flag closed)) yes.old }
 {
-    put::put_verdict(with_self::crosses_self(v, lent::is_closed(closed)), yes)
+    arcstring_calls::with_self::arcstring_crosses_self(v, closed, yes)
 }

@@ -11,7 +11,7 @@ pub(crate) fn pair(stdout: &impl Print, a: &[f64], b: &[f64]) {
     let mut class = BYTE;
     let mut kept = BYTE;
     let mut point = [FLOAT; 3];
-    let n = arcstring_c::crossing::arcstring_pair(
+    let n = arcstring_calls::crossing::arcstring_pair(
         &first, &second, &mut class, &mut kept, &mut point,
     );
     print::print_returned(stdout, n);
@@ -22,7 +22,7 @@ pub(crate) fn pair(stdout: &impl Print, a: &[f64], b: &[f64]) {
 
 pub(crate) fn count(stdout: &impl Print, q: Request, a: &[f64], b: &[f64]) {
     let mut counts = [COUNT; 4];
-    let n = arcstring_c::listing::arcstring_count(
+    let n = arcstring_calls::listing::arcstring_count(
         a,
         q.first_flag,
         b,
@@ -60,7 +60,7 @@ fn leg_crossings(
     let leg = six(a);
     let mut kept = NUMBER;
     let mut counts = [COUNT; 4];
-    let n = arcstring_c::listing::arcstring_leg_crossings(
+    let n = arcstring_calls::listing::arcstring_leg_crossings(
         &leg,
         b,
         q.second_flag,
@@ -83,7 +83,7 @@ fn crossings(
 ) {
     let mut kept = NUMBER;
     let mut counts = [COUNT; 4];
-    let n = arcstring_c::listing::arcstring_crossings(
+    let n = arcstring_calls::listing::arcstring_crossings(
         a,
         q.first_flag,
         b,
@@ -106,7 +106,7 @@ fn crossings_with_self(
 ) {
     let mut kept = NUMBER;
     let mut counts = [COUNT; 4];
-    let n = arcstring_c::with_self::arcstring_crossings_with_self(
+    let n = arcstring_calls::with_self::arcstring_crossings_with_self(
         a,
         q.margin,
         points,

@@ -15,7 +15,14 @@ fn print_string(stdout: &impl Print, n: u32, out: &[f64], out_buoys: &[u32], cou
 fn build(stdout: &impl Print, a: &[f64], buoys: &[u32], out: &mut [f64], out_buoys: &mut [u32]) {
     let mut count = NUMBER;
     let mut closed = BYTE;
-    let n = arcstring_c::build::arcstring_build(a, buoys, out, out_buoys, &mut count, &mut closed);
+    let n = arcstring_calls::build::arcstring_build(
+        a,
+        buoys,
+        out,
+        out_buoys,
+        &mut count,
+        &mut closed,
+    );
     print::print_returned(stdout, n);
     print::print_floats(stdout, out);
     print::print_buoys(stdout, out_buoys);
@@ -32,7 +39,7 @@ fn build_flagged(
     out_buoys: &mut [u32],
 ) {
     let mut count = NUMBER;
-    let n = arcstring_c::build::arcstring_build_flagged(
+    let n = arcstring_calls::build::arcstring_build_flagged(
         a,
         buoys,
         q.first_flag,
@@ -51,7 +58,7 @@ fn walk_back(
     out_buoys: &mut [u32],
 ) {
     let mut count = NUMBER;
-    let n = arcstring_c::walk::arcstring_walk_back(a, buoys, out, out_buoys, &mut count);
+    let n = arcstring_calls::walk::arcstring_walk_back(a, buoys, out, out_buoys, &mut count);
     print_string(stdout, n, out, out_buoys, count);
 }
 
@@ -64,7 +71,7 @@ fn restart(
     out_buoys: &mut [u32],
 ) {
     let mut count = NUMBER;
-    let n = arcstring_c::walk::arcstring_restart(
+    let n = arcstring_calls::walk::arcstring_restart(
         a,
         buoys,
         q.first_flag,
@@ -85,7 +92,7 @@ fn simplify(
     out_buoys: &mut [u32],
 ) {
     let mut count = NUMBER;
-    let n = arcstring_c::simplify::arcstring_simplify(
+    let n = arcstring_calls::simplify::arcstring_simplify(
         a,
         buoys,
         q.first_flag,
@@ -107,7 +114,7 @@ fn insert_vertices(
     out_buoys: &mut [u32],
 ) {
     let mut count = NUMBER;
-    let n = arcstring_c::insert::arcstring_insert_vertices(
+    let n = arcstring_calls::insert::arcstring_insert_vertices(
         a,
         a_buoys,
         q.first_flag,
@@ -180,7 +187,7 @@ fn split_into(
     counts: &mut [usize],
 ) {
     let mut pieces = NUMBER;
-    let n = arcstring_c::split::arcstring_split(
+    let n = arcstring_calls::split::arcstring_split(
         a,
         a_buoys,
         q.first_flag,
@@ -243,7 +250,7 @@ fn cut_into(
     counts: &mut [usize],
 ) {
     let mut pieces = NUMBER;
-    let n = arcstring_c::mark::arcstring_cut_at_marks(
+    let n = arcstring_calls::mark::arcstring_cut_at_marks(
         a,
         a_buoys,
         q.first_flag,

@@ -11,7 +11,7 @@ fn print_verdict(stdout: &impl Print, n: u32, yes: u8) {
 
 fn xyz_eq(stdout: &impl Print, a: &[f64]) {
     let mut yes = BYTE;
-    let n = arcstring_c::point::arcstring_xyz_eq(
+    let n = arcstring_calls::point::arcstring_xyz_eq(
         at(a, 0),
         at(a, 1),
         at(a, 2),
@@ -25,7 +25,7 @@ fn xyz_eq(stdout: &impl Print, a: &[f64]) {
 
 fn xyzs_coplanar(stdout: &impl Print, a: &[f64]) {
     let mut yes = BYTE;
-    let n = arcstring_c::point::arcstring_xyzs_coplanar(
+    let n = arcstring_calls::point::arcstring_xyzs_coplanar(
         at(a, 0),
         at(a, 1),
         at(a, 2),
@@ -42,13 +42,13 @@ fn xyzs_coplanar(stdout: &impl Print, a: &[f64]) {
 
 fn crosses_self(stdout: &impl Print, q: Request, a: &[f64]) {
     let mut yes = BYTE;
-    let n = arcstring_c::with_self::arcstring_crosses_self(a, q.first_flag, &mut yes);
+    let n = arcstring_calls::with_self::arcstring_crosses_self(a, q.first_flag, &mut yes);
     print_verdict(stdout, n, yes);
 }
 
 fn same_side(stdout: &impl Print, q: Request, a: &[f64], b: &[f64]) {
     let mut yes = BYTE;
-    let n = arcstring_c::listing::arcstring_same_side(
+    let n = arcstring_calls::listing::arcstring_same_side(
         at(a, 0),
         at(a, 1),
         at(a, 2),
@@ -64,7 +64,7 @@ fn same_side(stdout: &impl Print, q: Request, a: &[f64], b: &[f64]) {
 
 fn along(stdout: &impl Print, q: Request, a: &[f64], b: &[f64], b_near: &[f64]) {
     let mut yes = BYTE;
-    let n = arcstring_c::along::arcstring_along(
+    let n = arcstring_calls::along::arcstring_along(
         at(a, 0),
         at(a, 1),
         at(a, 2),
@@ -79,13 +79,19 @@ fn along(stdout: &impl Print, q: Request, a: &[f64], b: &[f64], b_near: &[f64]) 
 fn mark_on_leg(stdout: &impl Print, a: &[f64], b: &[f64]) {
     let leg = six(a);
     let mut yes = BYTE;
-    let n = arcstring_c::mark::arcstring_mark_on_leg(&leg, at(b, 0), at(b, 1), at(b, 2), &mut yes);
+    let n = arcstring_calls::mark::arcstring_mark_on_leg(
+        &leg,
+        at(b, 0),
+        at(b, 1),
+        at(b, 2),
+        &mut yes,
+    );
     print_verdict(stdout, n, yes);
 }
 
 fn mark_on_string(stdout: &impl Print, q: Request, a: &[f64], b: &[f64]) {
     let mut yes = BYTE;
-    let n = arcstring_c::mark::arcstring_mark_on_string(
+    let n = arcstring_calls::mark::arcstring_mark_on_string(
         at(a, 0),
         at(a, 1),
         at(a, 2),
@@ -112,7 +118,7 @@ pub(crate) fn on_string(stdout: &impl Print, q: Request, a: &[f64], b: &[f64], b
 
 fn eq(stdout: &impl Print, q: Request, a: &[f64], a_near: &[f64], b: &[f64], b_near: &[f64]) {
     let mut yes = BYTE;
-    let n = arcstring_c::relation::arcstring_eq(
+    let n = arcstring_calls::relation::arcstring_eq(
         a,
         a_near,
         q.first_flag,
@@ -126,7 +132,7 @@ fn eq(stdout: &impl Print, q: Request, a: &[f64], a_near: &[f64], b: &[f64], b_n
 
 fn equals(stdout: &impl Print, q: Request, a: &[f64], a_near: &[f64], b: &[f64], b_near: &[f64]) {
     let mut yes = BYTE;
-    let n = arcstring_c::simplified::arcstring_equals(
+    let n = arcstring_calls::simplified::arcstring_equals(
         a,
         a_near,
         q.first_flag,
@@ -140,7 +146,7 @@ fn equals(stdout: &impl Print, q: Request, a: &[f64], a_near: &[f64], b: &[f64],
 
 fn crosses(stdout: &impl Print, q: Request, a: &[f64], a_near: &[f64], b: &[f64], b_near: &[f64]) {
     let mut yes = BYTE;
-    let n = arcstring_c::relation::arcstring_crosses(
+    let n = arcstring_calls::relation::arcstring_crosses(
         a,
         a_near,
         q.first_flag,
@@ -154,7 +160,7 @@ fn crosses(stdout: &impl Print, q: Request, a: &[f64], a_near: &[f64], b: &[f64]
 
 fn overlaps(stdout: &impl Print, q: Request, a: &[f64], a_near: &[f64], b: &[f64], b_near: &[f64]) {
     let mut yes = BYTE;
-    let n = arcstring_c::simplified::arcstring_overlaps(
+    let n = arcstring_calls::simplified::arcstring_overlaps(
         a,
         a_near,
         q.first_flag,
@@ -168,13 +174,13 @@ fn overlaps(stdout: &impl Print, q: Request, a: &[f64], a_near: &[f64], b: &[f64
 
 fn within(stdout: &impl Print, q: Request, a: &[f64], b: &[f64], b_near: &[f64]) {
     let mut yes = BYTE;
-    let n = arcstring_c::relation::arcstring_within(a, b, b_near, q.second_flag, &mut yes);
+    let n = arcstring_calls::relation::arcstring_within(a, b, b_near, q.second_flag, &mut yes);
     print_verdict(stdout, n, yes);
 }
 
 fn contains(stdout: &impl Print, q: Request, a: &[f64], a_near: &[f64], b: &[f64]) {
     let mut yes = BYTE;
-    let n = arcstring_c::relation::arcstring_contains(a, a_near, q.first_flag, b, &mut yes);
+    let n = arcstring_calls::relation::arcstring_contains(a, a_near, q.first_flag, b, &mut yes);
     print_verdict(stdout, n, yes);
 }
 

@@ -13,7 +13,7 @@ fn print_written(stdout: &impl Print, n: u32, out: &[f64], count: usize) {
 
 pub(crate) fn point(stdout: &impl Print, a: &[f64]) {
     let mut out = [FLOAT; 3];
-    let n = arcstring_c::point::arcstring_point(at(a, 0), at(a, 1), at(a, 2), &mut out);
+    let n = arcstring_calls::point::arcstring_point(at(a, 0), at(a, 1), at(a, 2), &mut out);
     print::print_returned(stdout, n);
     print::print_point(stdout, &out);
 }
@@ -22,7 +22,7 @@ pub(crate) fn point(stdout: &impl Print, a: &[f64]) {
 pub(crate) fn run(stdout: &impl Print, q: Request, a: &[f64]) {
     let mut start = NUMBER;
     let mut len = NUMBER;
-    arcstring_c::walk::arcstring_run(a, q.first, q.second, &mut start, &mut len);
+    arcstring_calls::walk::arcstring_run(a, q.first, q.second, &mut start, &mut len);
     print::print_returned(stdout, 0);
     print::print_number(stdout, start);
     print::print_number(stdout, len);
@@ -30,20 +30,20 @@ pub(crate) fn run(stdout: &impl Print, q: Request, a: &[f64]) {
 
 fn turn_orientations(stdout: &impl Print, q: Request, a: &[f64], out: &mut [f64]) {
     let mut count = NUMBER;
-    let n = arcstring_c::measure::arcstring_turn_orientations(a, q.first_flag, out, &mut count);
+    let n = arcstring_calls::measure::arcstring_turn_orientations(a, q.first_flag, out, &mut count);
     print_written(stdout, n, out, count);
 }
 
 fn midpoints(stdout: &impl Print, q: Request, a: &[f64], out: &mut [f64]) {
     let mut count = NUMBER;
-    let n = arcstring_c::measure::arcstring_midpoints(a, q.first_flag, out, &mut count);
+    let n = arcstring_calls::measure::arcstring_midpoints(a, q.first_flag, out, &mut count);
     print_written(stdout, n, out, count);
 }
 
 fn split_leg(stdout: &impl Print, a: &[f64], b: &[f64], out: &mut [f64]) {
     let leg = six(a);
     let mut pieces = NUMBER;
-    let n = arcstring_c::split_leg::arcstring_split_leg(&leg, b, out, &mut pieces);
+    let n = arcstring_calls::split_leg::arcstring_split_leg(&leg, b, out, &mut pieces);
     print_written(stdout, n, out, pieces);
 }
 

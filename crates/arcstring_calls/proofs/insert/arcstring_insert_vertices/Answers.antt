@@ -1,0 +1,25 @@
+-- The number of vertices is put into its place beside their floats, and a refusal changes nothing. Assumes nothing.
+use Rattle.arcstring_insert.specs.Insert.{insert_vertices}
+use Rattle.arcstring_calls.proofs.Places.{written_as}
+use borrow.Author.Rules.{rules}
+use Rattle.arcstring_calls.proofs.insert.arcstring_insert_vertices.Goals as goal
+
+pub is_closed-flag-requires : goal.is_closed-flag-requires
+is_closed-flag-requires c = tt
+
+pub insert_vertices-r-requires : goal.insert_vertices-r-requires
+insert_vertices-r-requires c = tt
+
+pub put_count-requires : goal.put_count-requires
+put_count-requires c = tt
+
+pub returns : goal.returns
+returns c =
+    let w = rw c.is_closed-flag.ensures at (c.insert_vertices-r.ensures.result_value, (c.insert_vertices-r.ensures.out_after, c.insert_vertices-r.ensures.out_buoys_after)) in
+    let q = written_as (insert_vertices _ _ _ _ _ _ _) _ w.0 c.put_count.ensures in
+    record {
+      value = q.0;
+      out_after = w.1.0;
+      out_buoys_after = w.1.1;
+      count_after = q.1;
+    }

@@ -1,0 +1,24 @@
+-- The number of vertices is put into its place beside their floats, and a refusal changes nothing. Assumes nothing.
+use Rattle.arcstring_measure.specs.Measure.{midpoints}
+use Rattle.arcstring_calls.proofs.Places.{written_as}
+use borrow.Author.Rules.{rules}
+use Rattle.arcstring_calls.proofs.measure.arcstring_midpoints.Goals as goal
+
+pub is_closed-requires : goal.is_closed-requires
+is_closed-requires c = tt
+
+pub midpoints-r-requires : goal.midpoints-r-requires
+midpoints-r-requires c = tt
+
+pub put_count-requires : goal.put_count-requires
+put_count-requires c = tt
+
+pub returns : goal.returns
+returns c =
+    let w = rw c.is_closed.ensures at (c.midpoints-r.ensures.result_value, c.midpoints-r.ensures.out_after) in
+    let q = written_as (midpoints _ _ _) _ w.0 c.put_count.ensures in
+    record {
+      value = q.0;
+      out_after = w.1;
+      count_after = q.1;
+    }

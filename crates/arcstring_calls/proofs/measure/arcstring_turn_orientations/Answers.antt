@@ -1,0 +1,24 @@
+-- How many floats were written is put into its place beside them, and a refusal changes nothing. Assumes nothing.
+use Rattle.arcstring_measure.specs.Measure.{turn_orientations}
+use Rattle.arcstring_calls.proofs.Places.{written_as}
+use borrow.Author.Rules.{rules}
+use Rattle.arcstring_calls.proofs.measure.arcstring_turn_orientations.Goals as goal
+
+pub is_closed-requires : goal.is_closed-requires
+is_closed-requires c = tt
+
+pub xyzs_turn_orientations-r-requires : goal.xyzs_turn_orientations-r-requires
+xyzs_turn_orientations-r-requires c = tt
+
+pub put_count-requires : goal.put_count-requires
+put_count-requires c = tt
+
+pub returns : goal.returns
+returns c =
+    let w = rw c.is_closed.ensures at (c.xyzs_turn_orientations-r.ensures.result_value, c.xyzs_turn_orientations-r.ensures.out_after) in
+    let q = written_as (turn_orientations _ _ _) _ w.0 c.put_count.ensures in
+    record {
+      value = q.0;
+      out_after = w.1;
+      count_after = q.1;
+    }

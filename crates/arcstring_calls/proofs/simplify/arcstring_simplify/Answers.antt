@@ -1,0 +1,25 @@
+-- The number of vertices left is put into its place beside their floats, and a refusal changes nothing. Assumes nothing.
+use Rattle.arcstring_simplify.specs.Simplify.{simplify}
+use Rattle.arcstring_calls.proofs.Places.{written_as}
+use borrow.Author.Rules.{rules}
+use Rattle.arcstring_calls.proofs.simplify.arcstring_simplify.Goals as goal
+
+pub is_closed-requires : goal.is_closed-requires
+is_closed-requires c = tt
+
+pub simplify-r-requires : goal.simplify-r-requires
+simplify-r-requires c = tt
+
+pub put_count-requires : goal.put_count-requires
+put_count-requires c = tt
+
+pub returns : goal.returns
+returns c =
+    let w = rw c.is_closed.ensures at (c.simplify-r.ensures.result_value, (c.simplify-r.ensures.out_after, c.simplify-r.ensures.out_buoys_after)) in
+    let q = written_as (simplify _ _ _ _ _) _ w.0 c.put_count.ensures in
+    record {
+      value = q.0;
+      out_after = w.1.0;
+      out_buoys_after = w.1.1;
+      count_after = q.1;
+    }

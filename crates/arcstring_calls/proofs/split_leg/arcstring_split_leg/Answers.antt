@@ -1,0 +1,24 @@
+-- The number of pieces is put into its place beside their floats, and a refusal changes nothing. Assumes nothing.
+use Rattle.arcstring_split_leg.specs.SplitLeg.{split_leg}
+use Rattle.arcstring_calls.proofs.Places.{pieces_as}
+use borrow.Author.Rules.{rules}
+use Rattle.arcstring_calls.proofs.split_leg.arcstring_split_leg.Goals as goal
+
+pub leg_of_six-requires : goal.leg_of_six-requires
+leg_of_six-requires c = tt
+
+pub split_arc_at_points-r-requires : goal.split_arc_at_points-r-requires
+split_arc_at_points-r-requires c = tt
+
+pub put_pieces-requires : goal.put_pieces-requires
+put_pieces-requires c = tt
+
+pub returns : goal.returns
+returns c =
+    let w = rw c.leg_of_six.ensures at (c.split_arc_at_points-r.ensures.result_value, c.split_arc_at_points-r.ensures.out_after) in
+    let q = pieces_as (split_leg _ _ _) _ w.0 c.put_pieces.ensures in
+    record {
+      value = q.0;
+      out_after = w.1;
+      pieces_after = q.1;
+    }
