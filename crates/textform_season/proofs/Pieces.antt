@@ -21,4 +21,4 @@ no_pieces r limit track out sound h = pieces.no_pieces (sound, h)
 pub read_and_printed : (r : Reading) (limit track : List Float) (out text : List ℕ) → SeasonOfPieces r limit track out
     → text ≡ printed_report (kept_answer (held_season r limit track out)) → ReportOfPieces text
 read_and_printed r limit track out text all h =
-    pieces.same-pieces all (λ bytes held. whole_output bytes text kept_start (held_season r limit track out) refl held.1 h)
+    pieces.same_pieces all (λ bytes held. whole_output bytes text kept_start (held_season r limit track out) refl held.1 h)

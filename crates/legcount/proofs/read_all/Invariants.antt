@@ -14,7 +14,7 @@ use borrow.Author.Rules.{rules}
 use Rattle.legcount.proofs.read_all.Given as goal
 
 abbrev pub invariant-loop-turns : goal.invariant-loop-turns
-invariant-loop-turns l = ReadInPieces l.reader l.a l.b × (length l.a ≡ floats_kept) × (length l.b ≡ floats_kept) × (length l.bytes ≡ most_read)
+invariant-loop-turns g l = ReadInPieces l.reader l.a l.b × (length l.a ≡ floats_kept) × (length l.b ≡ floats_kept) × (length l.bytes ≡ most_read)
 
 abbrev pub decreases-loop-turns : goal.decreases-loop-turns
-decreases-loop-turns l = l.turns
+decreases-loop-turns g l = l.turns
