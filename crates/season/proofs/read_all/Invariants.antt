@@ -17,7 +17,7 @@ use borrow.Author.Rules.{rules}
 use Rattle.season.proofs.read_all.Given as goal
 
 abbrev pub invariant-loop-turns : goal.invariant-loop-turns
-invariant-loop-turns l = SeasonOfPieces l.reading l.limit l.track l.out × (length l.limit ≡ floats_kept) × (length l.track ≡ floats_kept) × (length l.out ≡ report_room) × (length l.bytes ≡ most_read)
+invariant-loop-turns g l = SeasonOfPieces l.reading l.limit l.track l.out × (length l.limit ≡ floats_kept) × (length l.track ≡ floats_kept) × (length l.out ≡ report_room) × (length l.bytes ≡ most_read)
 
 abbrev pub decreases-loop-turns : goal.decreases-loop-turns
-decreases-loop-turns l = l.turns
+decreases-loop-turns g l = l.turns
