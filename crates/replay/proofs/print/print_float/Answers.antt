@@ -14,4 +14,4 @@ same-no-nan (inf s) h = tt
 same-no-nan (fin s m e) h = tt
 
 pub float_to_bits-x : goal.float_to_bits-x
-float_to_bits-x c = same-no-nan c.args.x c.if-x.false
+float_to_bits-x g c = same-no-nan c.args.x c.if-x.false

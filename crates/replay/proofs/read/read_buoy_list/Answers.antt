@@ -6,4 +6,4 @@ use borrow.Author.Rules.{rules}
 use Rattle.replay.proofs.read.read_buoy_list.Goals as goal
 
 pub returns : goal.returns
-returns c = (search rules, sym (length-take-le _ _ (omega arith)))
+returns g c = (search rules, sym (length-take-le _ _ (omega arith)))

@@ -6,7 +6,7 @@ use borrow.Author.Rules.{rules}
 use Rattle.replay.proofs.read.read_buoys.Given as goal
 
 abbrev pub invariant-loop-i : goal.invariant-loop-i
-invariant-loop-i l = (l.i ≤ l.count) × (length l.list ≡ length l.initial.list)
+invariant-loop-i g l = (l.i ≤ l.count) × (length l.list ≡ length l.initial.list)
 
 abbrev pub decreases-loop-i : goal.decreases-loop-i
-decreases-loop-i l = l.count - l.i
+decreases-loop-i g l = l.count - l.i
