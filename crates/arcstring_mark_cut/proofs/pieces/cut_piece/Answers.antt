@@ -1,7 +1,9 @@
 -- `cut_piece` leaves the pieces where the mark equals an end of piece k, refuses where two points more are too many, and else puts the mark in twice and makes
 -- two counts of one. Assumes nothing.
 use mathlib.Core.Path.{◌≡◌, refl, sym, ◌∙◌}
-use Prim.Native.Nat.{◌+◌, ◌-◌, ◌*◌, ◌≤◌}
+use mathlib.Core.List.{List}
+use lib.Ieee.{Float}
+use Prim.Native.Nat.{ℕ, ◌+◌, ◌-◌, ◌*◌, ◌≤◌}
 use native.Mathlib.Omega.{arith}
 use borrow.Author.Rules.{rules}
 use lib.ListN.{length, get_or, take}
@@ -11,20 +13,19 @@ use Rattle.arcstring_piece.specs.Pieces.{sum}
 use Rattle.arcstring_mark_cut.proofs.MarkCuts.{put_twice, all_points, piece_some, piece-within}
 use Rattle.arcstring_mark_cut.proofs.MarkCuts.{cuts_nothing, one_too_many, one_more_lem, one_more_stands}
 use Rattle.arcstring_mark_cut.proofs.pieces.cut_piece.Goals as goal
-use Rattle.arcstring_mark_cut.proofs.pieces.cut_piece.Goals.{Start}
 
 -- the numbers of the entry: the piece lies within all points, which are few
-record Numbers (s : Start) : Type 0 where
-  all : sum (take s.args.m s.args.counts.now) ≡ s.args.n + 2 * (s.args.m - 1)
-  within : s.args.at + get_or s.args.counts.now s.args.k 0 ≤ s.args.n + 2 * (s.args.m - 1)
-  floats : length s.args.work.now ≡ 3075
-  numbers : length s.args.buoys.now ≡ 1025
-  few : s.args.n + 2 * (s.args.m - 1) ≤ 1025
-  pieces : 1 ≤ s.args.m
+record Numbers (n m at k : ℕ) (work : List Float) (buoys counts : List ℕ) : Type 0 where
+  all : sum (take m counts) ≡ n + 2 * (m - 1)
+  within : at + get_or counts k 0 ≤ n + 2 * (m - 1)
+  floats : length work ≡ 3075
+  numbers : length buoys ≡ 1025
+  few : n + 2 * (m - 1) ≤ 1025
+  pieces : 1 ≤ m
 
 pub at_piece_end-requires : goal.at_piece_end-requires
 at_piece_end-requires c =
-    let known : Numbers c = let total = all_points c.args.n c.args.m c.args.work.now c.args.buoys.now c.args.counts.now c.requires.0 in
+    let known : Numbers c.args.n c.args.m c.args.at c.args.k c.args.work.now c.args.buoys.now c.args.counts.now = let total = all_points c.args.n c.args.m c.args.work.now c.args.buoys.now c.args.counts.now c.requires.0 in
     record {
       all = total;
       within = omega (arith, total, c.requires.2, piece-within c.args.n c.args.m c.args.work.now c.args.buoys.now c.args.counts.now c.requires.0 c.args.k c.requires.1);
@@ -45,7 +46,7 @@ returns-then-at_piece_end c =
 
 pub returns-then-total-gt-MOST_POINTS : goal.returns-then-total-gt-MOST_POINTS
 returns-then-total-gt-MOST_POINTS c =
-    let known : Numbers c = let total = all_points c.args.n c.args.m c.args.work.now c.args.buoys.now c.args.counts.now c.requires.0 in
+    let known : Numbers c.args.n c.args.m c.args.at c.args.k c.args.work.now c.args.buoys.now c.args.counts.now = let total = all_points c.args.n c.args.m c.args.work.now c.args.buoys.now c.args.counts.now c.requires.0 in
     record {
       all = total;
       within = omega (arith, total, c.requires.2, piece-within c.args.n c.args.m c.args.work.now c.args.buoys.now c.args.counts.now c.requires.0 c.args.k c.requires.1);
@@ -62,7 +63,7 @@ returns-then-total-gt-MOST_POINTS c =
 
 pub overflow_add-at : goal.overflow_add-at
 overflow_add-at c =
-    let known : Numbers c = let total = all_points c.args.n c.args.m c.args.work.now c.args.buoys.now c.args.counts.now c.requires.0 in
+    let known : Numbers c.args.n c.args.m c.args.at c.args.k c.args.work.now c.args.buoys.now c.args.counts.now = let total = all_points c.args.n c.args.m c.args.work.now c.args.buoys.now c.args.counts.now c.requires.0 in
     record {
       all = total;
       within = omega (arith, total, c.requires.2, piece-within c.args.n c.args.m c.args.work.now c.args.buoys.now c.args.counts.now c.requires.0 c.args.k c.requires.1);
@@ -75,7 +76,7 @@ overflow_add-at c =
 
 pub overflow_add-at-2 : goal.overflow_add-at-2
 overflow_add-at-2 c =
-    let known : Numbers c = let total = all_points c.args.n c.args.m c.args.work.now c.args.buoys.now c.args.counts.now c.requires.0 in
+    let known : Numbers c.args.n c.args.m c.args.at c.args.k c.args.work.now c.args.buoys.now c.args.counts.now = let total = all_points c.args.n c.args.m c.args.work.now c.args.buoys.now c.args.counts.now c.requires.0 in
     record {
       all = total;
       within = omega (arith, total, c.requires.2, piece-within c.args.n c.args.m c.args.work.now c.args.buoys.now c.args.counts.now c.requires.0 c.args.k c.requires.1);
@@ -88,7 +89,7 @@ overflow_add-at-2 c =
 
 pub insert_numbered-requires : goal.insert_numbered-requires
 insert_numbered-requires c =
-    let known : Numbers c = let total = all_points c.args.n c.args.m c.args.work.now c.args.buoys.now c.args.counts.now c.requires.0 in
+    let known : Numbers c.args.n c.args.m c.args.at c.args.k c.args.work.now c.args.buoys.now c.args.counts.now = let total = all_points c.args.n c.args.m c.args.work.now c.args.buoys.now c.args.counts.now c.requires.0 in
     record {
       all = total;
       within = omega (arith, total, c.requires.2, piece-within c.args.n c.args.m c.args.work.now c.args.buoys.now c.args.counts.now c.requires.0 c.args.k c.requires.1);
@@ -101,7 +102,7 @@ insert_numbered-requires c =
 
 pub overflow_add-at-3 : goal.overflow_add-at-3
 overflow_add-at-3 c =
-    let known : Numbers c = let total = all_points c.args.n c.args.m c.args.work.now c.args.buoys.now c.args.counts.now c.requires.0 in
+    let known : Numbers c.args.n c.args.m c.args.at c.args.k c.args.work.now c.args.buoys.now c.args.counts.now = let total = all_points c.args.n c.args.m c.args.work.now c.args.buoys.now c.args.counts.now c.requires.0 in
     record {
       all = total;
       within = omega (arith, total, c.requires.2, piece-within c.args.n c.args.m c.args.work.now c.args.buoys.now c.args.counts.now c.requires.0 c.args.k c.requires.1);
@@ -114,7 +115,7 @@ overflow_add-at-3 c =
 
 pub overflow_add-at-4 : goal.overflow_add-at-4
 overflow_add-at-4 c =
-    let known : Numbers c = let total = all_points c.args.n c.args.m c.args.work.now c.args.buoys.now c.args.counts.now c.requires.0 in
+    let known : Numbers c.args.n c.args.m c.args.at c.args.k c.args.work.now c.args.buoys.now c.args.counts.now = let total = all_points c.args.n c.args.m c.args.work.now c.args.buoys.now c.args.counts.now c.requires.0 in
     record {
       all = total;
       within = omega (arith, total, c.requires.2, piece-within c.args.n c.args.m c.args.work.now c.args.buoys.now c.args.counts.now c.requires.0 c.args.k c.requires.1);
@@ -127,7 +128,7 @@ overflow_add-at-4 c =
 
 pub insert_numbered-requires-2 : goal.insert_numbered-requires-2
 insert_numbered-requires-2 c =
-    let known : Numbers c = let total = all_points c.args.n c.args.m c.args.work.now c.args.buoys.now c.args.counts.now c.requires.0 in
+    let known : Numbers c.args.n c.args.m c.args.at c.args.k c.args.work.now c.args.buoys.now c.args.counts.now = let total = all_points c.args.n c.args.m c.args.work.now c.args.buoys.now c.args.counts.now c.requires.0 in
     record {
       all = total;
       within = omega (arith, total, c.requires.2, piece-within c.args.n c.args.m c.args.work.now c.args.buoys.now c.args.counts.now c.requires.0 c.args.k c.requires.1);
@@ -140,7 +141,7 @@ insert_numbered-requires-2 c =
 
 pub overflow_add-i : goal.overflow_add-i
 overflow_add-i c =
-    let known : Numbers c = let total = all_points c.args.n c.args.m c.args.work.now c.args.buoys.now c.args.counts.now c.requires.0 in
+    let known : Numbers c.args.n c.args.m c.args.at c.args.k c.args.work.now c.args.buoys.now c.args.counts.now = let total = all_points c.args.n c.args.m c.args.work.now c.args.buoys.now c.args.counts.now c.requires.0 in
     record {
       all = total;
       within = omega (arith, total, c.requires.2, piece-within c.args.n c.args.m c.args.work.now c.args.buoys.now c.args.counts.now c.requires.0 c.args.k c.requires.1);
@@ -153,7 +154,7 @@ overflow_add-i c =
 
 pub returns : goal.returns
 returns c =
-    let known : Numbers c = let total = all_points c.args.n c.args.m c.args.work.now c.args.buoys.now c.args.counts.now c.requires.0 in
+    let known : Numbers c.args.n c.args.m c.args.at c.args.k c.args.work.now c.args.buoys.now c.args.counts.now = let total = all_points c.args.n c.args.m c.args.work.now c.args.buoys.now c.args.counts.now c.requires.0 in
     record {
       all = total;
       within = omega (arith, total, c.requires.2, piece-within c.args.n c.args.m c.args.work.now c.args.buoys.now c.args.counts.now c.requires.0 c.args.k c.requires.1);

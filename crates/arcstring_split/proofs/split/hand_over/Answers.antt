@@ -1,5 +1,7 @@
 -- `hand_over` answers as the cut did where it was refused, that nothing was cut where there is one piece, 7 where a buffer is too short, and else copies the
 -- pieces out. Assumes nothing.
+use mathlib.Core.List.{List}
+use lib.Ieee.{Float}
 use Prim.Native.Nat.{ℕ, ◌*◌, ◌≤◌}
 use native.Mathlib.Omega.{arith}
 use lib.ListN.{length}
@@ -7,16 +9,11 @@ use Rattle.arcstring_piece.specs.Pieces.{Stands}
 use Rattle.arcstring_cut.proofs.inner.cut_place.CutPlaces.{counted_stand}
 use Rattle.arcstring_split.proofs.split.SplitAnswers.{rooms_fit, handed_refusal, handed_uncut, handed_no_room, handed_pieces}
 use Rattle.arcstring_split.proofs.split.hand_over.Goals as goal
-use Rattle.arcstring_split.proofs.split.hand_over.Goals.{Start}
-
--- the pieces stand in the local lists
-abbrev Standing : Start → ℕ → Type 0
-Standing s m = Stands m s.args.work.now s.args.buoys.now s.args.sizes.now s.args.closings.now
 
 -- and the buffers have room for `total` points in m pieces
-abbrev Fitting : Start → ℕ → ℕ → Type 0
-Fitting s total m =
-    (3 * total ≤ length s.args.out.now) × (total ≤ length s.args.out_buoys.now) × (m ≤ length s.args.counts.now) × (m ≤ length s.args.flags.now)
+abbrev Fitting : List Float → (out_buoys counts flags : List ℕ) → ℕ → ℕ → Type 0
+Fitting out out_buoys counts flags total m =
+    (3 * total ≤ length out) × (total ≤ length out_buoys) × (m ≤ length counts) × (m ≤ length flags)
 
 pub returns-then-m-lt2 : goal.returns-then-m-lt2
 returns-then-m-lt2 c =
@@ -26,12 +23,12 @@ returns-then-m-lt2 c =
 
 pub sum_of-total-requires : goal.sum_of-total-requires
 sum_of-total-requires c =
-    let stand : Standing c.before.before.before.before.before.before.before.before.before.before c.in-Pieces.m = counted_stand _ _ _ _ _ _ c.in-Pieces.is c.requires in
+    let stand : Stands c.in-Pieces.m c.args.work.now c.args.buoys.now c.args.sizes.now c.args.closings.now = counted_stand _ _ _ _ _ _ c.in-Pieces.is c.requires in
     (omega (arith, stand.counts-room, stand.pieces), stand.limit)
 
 pub overflow_mul-total : goal.overflow_mul-total
 overflow_mul-total c =
-    let stand : Standing c.before.before.before.before.before.before.before.before.before.before c.in-Pieces.m = counted_stand _ _ _ _ _ _ c.in-Pieces.is c.requires in
+    let stand : Stands c.in-Pieces.m c.args.work.now c.args.buoys.now c.args.sizes.now c.args.closings.now = counted_stand _ _ _ _ _ _ c.in-Pieces.is c.requires in
     omega (arith, c.sum_of-total.ensures, stand.limit)
 
 pub returns-then-out-total : goal.returns-then-out-total
@@ -42,26 +39,26 @@ returns-then-out-total c =
 
 pub copy_run-requires : goal.copy_run-requires
 copy_run-requires c =
-    let stand : Standing c.before.before.before.before.before.before.before.before.before.before c.in-Pieces.m = counted_stand _ _ _ _ _ _ c.in-Pieces.is c.requires in
-    let fits : Fitting c.before.before.before.before.before.before.before.before.before.before.before.before.before.before c.sum_of-total.result c.in-Pieces.m = rooms_fit _ _ _ _ _ _ _ _ c.if-out-total.false in
+    let stand : Stands c.in-Pieces.m c.args.work.now c.args.buoys.now c.args.sizes.now c.args.closings.now = counted_stand _ _ _ _ _ _ c.in-Pieces.is c.requires in
+    let fits : Fitting c.args.out.now c.args.out_buoys.now c.args.counts.now c.args.flags.now c.sum_of-total.result c.in-Pieces.m = rooms_fit _ _ _ _ _ _ _ _ c.if-out-total.false in
     (omega (arith, c.sum_of-total.ensures, stand.limit, stand.floats), omega (arith, fits))
 
 pub copy_buoys-requires : goal.copy_buoys-requires
 copy_buoys-requires c =
-    let stand : Standing c.before.before.before.before.before.before.before.before.before.before c.in-Pieces.m = counted_stand _ _ _ _ _ _ c.in-Pieces.is c.requires in
-    let fits : Fitting c.before.before.before.before.before.before.before.before.before.before.before.before.before.before c.sum_of-total.result c.in-Pieces.m = rooms_fit _ _ _ _ _ _ _ _ c.if-out-total.false in
+    let stand : Stands c.in-Pieces.m c.args.work.now c.args.buoys.now c.args.sizes.now c.args.closings.now = counted_stand _ _ _ _ _ _ c.in-Pieces.is c.requires in
+    let fits : Fitting c.args.out.now c.args.out_buoys.now c.args.counts.now c.args.flags.now c.sum_of-total.result c.in-Pieces.m = rooms_fit _ _ _ _ _ _ _ _ c.if-out-total.false in
     (omega (arith, c.sum_of-total.ensures, stand.limit, stand.buoys_room), omega (arith, fits))
 
 pub copy_numbers-requires : goal.copy_numbers-requires
 copy_numbers-requires c =
-    let stand : Standing c.before.before.before.before.before.before.before.before.before.before c.in-Pieces.m = counted_stand _ _ _ _ _ _ c.in-Pieces.is c.requires in
-    let fits : Fitting c.before.before.before.before.before.before.before.before.before.before.before.before.before.before c.sum_of-total.result c.in-Pieces.m = rooms_fit _ _ _ _ _ _ _ _ c.if-out-total.false in
+    let stand : Stands c.in-Pieces.m c.args.work.now c.args.buoys.now c.args.sizes.now c.args.closings.now = counted_stand _ _ _ _ _ _ c.in-Pieces.is c.requires in
+    let fits : Fitting c.args.out.now c.args.out_buoys.now c.args.counts.now c.args.flags.now c.sum_of-total.result c.in-Pieces.m = rooms_fit _ _ _ _ _ _ _ _ c.if-out-total.false in
     (omega (arith, stand.counts-room, stand.pieces), fits.2)
 
 pub copy_flags-requires : goal.copy_flags-requires
 copy_flags-requires c =
-    let stand : Standing c.before.before.before.before.before.before.before.before.before.before c.in-Pieces.m = counted_stand _ _ _ _ _ _ c.in-Pieces.is c.requires in
-    let fits : Fitting c.before.before.before.before.before.before.before.before.before.before.before.before.before.before c.sum_of-total.result c.in-Pieces.m = rooms_fit _ _ _ _ _ _ _ _ c.if-out-total.false in
+    let stand : Stands c.in-Pieces.m c.args.work.now c.args.buoys.now c.args.sizes.now c.args.closings.now = counted_stand _ _ _ _ _ _ c.in-Pieces.is c.requires in
+    let fits : Fitting c.args.out.now c.args.out_buoys.now c.args.counts.now c.args.flags.now c.sum_of-total.result c.in-Pieces.m = rooms_fit _ _ _ _ _ _ _ _ c.if-out-total.false in
     (omega (arith, stand.flags-room, stand.pieces), fits.3)
 
 pub returns-in-Refused : goal.returns-in-Refused
