@@ -1,4 +1,4 @@
-//! Links the static libraries that `rt staticlib` wrote; STATICLIB names their folder. With the feature s2 also s2.o, which `compare/run`
+//! Links the static libraries that `rt lib` wrote; STATICLIB names their folder. With the feature s2 also s2.o, which `compare/run`
 //! compiles, and S2.
 fn main() {
     let folder = std::env::var("STATICLIB").expect("STATICLIB: the folder of the static libraries");

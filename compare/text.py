@@ -12,7 +12,7 @@ one of 1,000 tracks of N rows each against a limit of N. --stored instead writes
 program on, and what is expected of it, crates/NAME/stdout: for legcount two strings of 1,024 points that cross, touch and graze,
 for season a closed limit and eleven tracks.
 
-The program is target/bin/NAME, which `rt check NAME` builds, or the one at PATH: a program with a mistake in it is to be noticed.
+The program is crates/NAME/out/NAME, which `rt run` builds in the folder crates/NAME, or the one at PATH: a program with a mistake in it is to be noticed.
 Ends with 1 on a difference. Standard Python, no packages.
 """
 import argparse
@@ -724,7 +724,7 @@ def main():
     a.add_argument("--seed", type=int, default=1)
     a.add_argument("--rows", type=int)
     a.add_argument("--stored", action="store_true")
-    a.add_argument("--program", metavar="PATH", default=os.path.join(TOP, "target", "bin", program.name))
+    a.add_argument("--program", metavar="PATH", default=os.path.join(TOP, "crates", program.name, "out", program.name))
     o = a.parse_args(words)
     path = os.path.abspath(o.program)
     if o.stored:

@@ -1,8 +1,8 @@
 /* A race course cut at the marks that were laid on its legs: longitudes and latitudes in, the parts of the course out,
  * each from buoy to buoy.
  *
- *     rt staticlib arcstring_c
- *     cc -std=c99 -Wall -Wextra -Iinclude examples/course.c target/staticlib/libarcstring_c.a -lm -o target/course
+ *     (cd crates/arcstring_c && rt lib)
+ *     cc -std=c99 -Wall -Wextra -Iinclude examples/course.c crates/arcstring_c/out/libarcstring_c.a -lm -o target/course
  *     target/course
  */
 #include "arcstring.h"

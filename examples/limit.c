@@ -1,8 +1,8 @@
 /* Counts how a boat's track crosses an ice limit between two buoys, and lists where: longitudes and latitudes in,
  * longitudes and latitudes out.
  *
- *     rt staticlib arcstring_c
- *     cc -std=c99 -Wall -Wextra -Iinclude examples/limit.c target/staticlib/libarcstring_c.a -lm -o target/limit
+ *     (cd crates/arcstring_c && rt lib)
+ *     cc -std=c99 -Wall -Wextra -Iinclude examples/limit.c crates/arcstring_c/out/libarcstring_c.a -lm -o target/limit
  *     target/limit
  */
 #include "arcstring.h"

@@ -1,6 +1,6 @@
 /* Lists where two strings cross: reads what the counting program reads, and prints a line for each point that is kept.
  *
- *     cc -std=c99 -Wall -Wextra -Iinclude examples/listing.c target/staticlib/libarcstring_c.a -lm -o target/listing
+ *     cc -std=c99 -Wall -Wextra -Iinclude examples/listing.c crates/arcstring_c/out/libarcstring_c.a -lm -o target/listing
  *     target/listing < examples/southern_leg.legs
  *
  * A line is `clean` or `grazing`, a longitude and a latitude in degrees, or `grazing nowhere` where the point is the
