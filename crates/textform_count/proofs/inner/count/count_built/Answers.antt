@@ -53,4 +53,4 @@ returns-in-String-other c =
     let first-here = build_stands _ _ _ _ c.build_plain-built.ensures.result_value c.build_plain-built.ensures.out_after _ _ c.in-String.is in
     let second-here = build_stands _ _ _ _ c.build_plain-other.ensures.result_value c.build_plain-other.ensures.out_after _ _ c.in-String-other.is in
     c.conclusion_of.ensures ∙ c.count.ensures
-    ∙ both_counted _ _ _ _ _ _ _ _ c.shared_slice_known-1.given c.shared_slice_known-2-1.given first-here second-here
+    ∙ both_counted _ _ _ _ _ _ _ _ c.type_inv.a c.type_inv.b first-here second-here
