@@ -1,13 +1,10 @@
 -- `read_all` holds what the reads gave, piece after piece, by textform_count's `Pieces`: after a read that gave some bytes there is one piece more. Only
 -- after a read that gave none does it call the input whole. Assumes nothing.
-use mathlib.Core.Path.{◌≡◌, sym, ◌∙◌}
-use native.Mathlib.Omega.{arith}
+use mathlib.Core.Path.{sym, ◌∙◌}
 use lib.ListN.{length}
 use mir.Syntax.{w64}
 use mir.Val.{SFits}
 use borrow.Author.Rules.{rules}
-use Rattle.textform.specs.Kept.{floats_kept}
-use Rattle.textform.specs.Pieces.{most_read}
 use Rattle.textform.proofs.Answers.{at-end, nothing_read, some_read}
 use Rattle.textform_count.proofs.Pieces.{no_pieces, one_more_lem, none_more}
 use Rattle.legcount.proofs.read_all.Goals as goal

@@ -1,5 +1,4 @@
 -- `main` counts its turns down. Assumes nothing.
-use borrow.Author.Rules.{rules}
 use Rattle.replay.proofs.main.Given as goal
 
 abbrev pub invariant-loop-turns : goal.invariant-loop-turns

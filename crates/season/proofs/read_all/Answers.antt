@@ -1,6 +1,6 @@
 -- `read_all` holds what the reads gave, piece after piece, by textform_season's `Pieces`: after a read that gave some bytes there is one piece more. Only
 -- after a read that gave none does it call the input whole. Assumes nothing.
-use mathlib.Core.Path.{◌≡◌, sym, ◌∙◌}
+use mathlib.Core.Path.{sym, ◌∙◌}
 use lib.ListN.{length}
 use mir.Syntax.{w64}
 use mir.Val.{SFits}

@@ -1,6 +1,5 @@
 -- `sphericalpoint::normalize` meets its contract by what its calls ensure. Assumes nothing.
 use Rattle.sphericalpoint.specs.Vector.{normalized}
-use borrow.Author.Rules.{rules}
 use Rattle.sphericalpoint.proofs.normalize.Goals as goal
 
 pub returns : goal.returns

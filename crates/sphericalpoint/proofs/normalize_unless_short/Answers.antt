@@ -1,7 +1,6 @@
 -- `sphericalpoint::normalize_unless_short` meets its contract, whichever way its test goes. Assumes nothing.
 use Rattle.sphericalpoint.proofs.Tolerances.{equality_bits}
 use Rattle.sphericalpoint.proofs.Cases.{short_stays, long_divided}
-use borrow.Author.Rules.{rules}
 use Rattle.sphericalpoint.proofs.normalize_unless_short.Goals as goal
 
 pub returns-then-length : goal.returns-then-length

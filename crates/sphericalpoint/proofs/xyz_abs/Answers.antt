@@ -1,6 +1,5 @@
 -- `sphericalpoint::xyz_abs` meets its contract by what its calls ensure. Assumes nothing.
 use Rattle.sphericalpoint.specs.Vector.{xyz_abs}
-use borrow.Author.Rules.{rules}
 use Rattle.sphericalpoint.proofs.xyz_abs.Goals as goal
 
 pub returns : goal.returns

@@ -1,6 +1,5 @@
 -- `sphericalpoint::xyz_dot` meets its contract by what its calls ensure. Assumes nothing.
 use Rattle.sphericalpoint.specs.Vector.{xyz_dot}
-use borrow.Author.Rules.{rules}
 use Rattle.sphericalpoint.proofs.xyz_dot.Goals as goal
 
 pub returns : goal.returns

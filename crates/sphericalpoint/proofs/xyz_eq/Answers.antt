@@ -5,7 +5,6 @@ use Rattle.sphericalpoint.specs.declared.SphericalPoint.{SphericalPoint}
 use Rattle.sphericalpoint.specs.Vector.{xyz_eq, xyz_abs, xyz_sum}
 use Rattle.sphericalpoint.proofs.Tolerances.{equality_bits}
 use Rattle.sphericalpoint.proofs.Magnitudes.{by_magnitudes}
-use borrow.Author.Rules.{rules}
 use Rattle.sphericalpoint.proofs.xyz_eq.Goals as goal
 
 pub returns : goal.returns

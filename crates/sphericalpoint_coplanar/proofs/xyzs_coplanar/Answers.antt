@@ -1,5 +1,4 @@
 -- `xyzs_coplanar` is `coplanar_of` of its points' coordinates. Assumes nothing.
-use borrow.Author.Rules.{rules}
 use Rattle.sphericalpoint_coplanar.proofs.xyzs_coplanar.Goals as goal
 
 pub returns : goal.returns

@@ -1,7 +1,6 @@
 -- The checks of four lists in turn. Assumes nothing.
 use mathlib.Core.Path.{◌∙◌}
 use Rattle.arcstring_check.proofs.Answers.{both_numbers}
-use borrow.Author.Rules.{rules}
 use Rattle.arcstring_against.proofs.inner.check_two.Goals as goal
 
 pub returns : goal.returns

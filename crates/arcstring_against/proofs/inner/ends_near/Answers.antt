@@ -1,6 +1,5 @@
 -- Each end of the left near an end of the right. Assumes nothing.
 use Rattle.arcstring_against.proofs.Against.{ends_meet_ends}
-use borrow.Author.Rules.{rules}
 use Rattle.arcstring_against.proofs.inner.ends_near.Goals as goal
 
 pub returns : goal.returns

@@ -1,8 +1,6 @@
 -- `==` of two accepted strings: the boundaries, then the vertices of the longer, then those of the shorter. Assumes nothing.
 use mathlib.Core.Path.{sym, ◌∙◌}
-use borrow.Author.Tests.{not-true, not-false}
 use Rattle.arcstring_against.proofs.Against.{boundaries_differ, left_shorter, left_no_shorter, each_stop, each_go}
-use borrow.Author.Rules.{rules}
 use Rattle.arcstring_against.proofs.inner.equal_strings.Goals as goal
 
 pub returns-then-not-same_boundary : goal.returns-then-not-same_boundary

@@ -2,7 +2,6 @@
 use native.Mathlib.Omega.{arith}
 use Rattle.arcstring_check.proofs.Checks.{stored_some}
 use Rattle.arcstring_against.proofs.Against.{end_first}
-use borrow.Author.Rules.{rules}
 use Rattle.arcstring_against.proofs.inner.first_end.Goals as goal
 
 pub vertex_at-requires : goal.vertex_at-requires

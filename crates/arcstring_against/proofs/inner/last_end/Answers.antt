@@ -2,7 +2,6 @@
 use native.Mathlib.Omega.{arith}
 use Rattle.arcstring_check.proofs.Checks.{stored_whole, stored_some}
 use Rattle.arcstring_against.proofs.Against.{end_last}
-use borrow.Author.Rules.{rules}
 use Rattle.arcstring_against.proofs.inner.last_end.Goals as goal
 
 pub overflow_sub-v : goal.overflow_sub-v

@@ -1,6 +1,5 @@
 -- Near the one or near the other. Assumes nothing.
 use Rattle.arcstring_against.proofs.Against.{either_near}
-use borrow.Author.Rules.{rules}
 use Rattle.arcstring_against.proofs.inner.near_either.Goals as goal
 
 pub returns : goal.returns

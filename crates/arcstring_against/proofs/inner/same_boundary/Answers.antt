@@ -1,6 +1,5 @@
 -- Two boundaries by the two flags. Assumes nothing.
 use Rattle.arcstring_against.proofs.Against.{both_closed, one_closed, both_open}
-use borrow.Author.Rules.{rules}
 use Rattle.arcstring_against.proofs.inner.same_boundary.Goals as goal
 
 pub returns-then-a_closed-b_closed : goal.returns-then-a_closed-b_closed

@@ -5,7 +5,6 @@ use Rattle.arcstring_check.specs.Answer.{answered, first_of}
 use Rattle.arcstring_check.specs.Check.{check_number, stored_check, point_check}
 use Rattle.arcstring_check.proofs.Answers.{refused_in_turn, accepted_in_turn, passed_in_turn, both_numbers}
 use Rattle.arcstring_along.specs.OnString.{along}
-use borrow.Author.Rules.{rules}
 use Rattle.arcstring_along.proofs.on_string.point_is_along_arcstring.Goals as goal
 
 pub along_string-requires : goal.along_string-requires

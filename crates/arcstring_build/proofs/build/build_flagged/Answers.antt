@@ -2,7 +2,6 @@
 use mathlib.Core.Path.{sym, ap, ◌∙◌}
 use Rattle.arcstring_build.specs.Build.{built_answer}
 use Rattle.arcstring_build.proofs.Builds.{flagged_refused, flagged_answered, flagged-leaves}
-use borrow.Author.Rules.{rules}
 use Rattle.arcstring_build.proofs.build.build_flagged.Goals as goal
 
 pub returns-in-Refused : goal.returns-in-Refused

@@ -1,6 +1,5 @@
 -- `build_closed` normalises what `build_open` wrote a second time. Assumes nothing.
 use Rattle.arcstring_build.proofs.Builds.{closed_of}
-use borrow.Author.Rules.{rules}
 use Rattle.arcstring_build.proofs.inner.build_closed.Goals as goal
 
 pub returns : goal.returns

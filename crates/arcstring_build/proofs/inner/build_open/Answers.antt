@@ -1,12 +1,8 @@
 -- `build_open` normalises the first points of one list into another: after i turns the first i are written. Assumes nothing.
-use mathlib.Core.Path.{◌≡◌, refl, sym, ap, ◌∙◌}
-use Prim.Native.Nat.{◌≤◌, ◌-◌, ◌*◌}
+use mathlib.Core.Path.{refl, sym, ap, ◌∙◌}
+use Prim.Native.Nat.{◌-◌}
 use native.Mathlib.Omega.{arith}
-use lib.ListN.{length, take}
 use Rattle.sphericalpoint.specs.Point.{normalized_unless_short}
-use Rattle.arcstring.specs.Points.{points, flat}
-use Rattle.arcstring.specs.Splice.{splice}
-use Rattle.arcstring_build.specs.Build.{normalized_all}
 use Rattle.arcstring.proofs.Splices.{splice_nothing}
 use Rattle.arcstring.proofs.Moves.{map-step, map_all}
 use Rattle.arcstring_build.proofs.inner.build_open.Goals as goal

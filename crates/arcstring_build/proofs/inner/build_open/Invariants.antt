@@ -1,14 +1,10 @@
 -- `build_open` normalises the first points of one list into another: after i turns the first i are written. Assumes nothing.
-use mathlib.Core.Path.{◌≡◌, refl, sym, ap, ◌∙◌}
+use mathlib.Core.Path.{◌≡◌}
 use Prim.Native.Nat.{◌≤◌, ◌-◌, ◌*◌}
-use native.Mathlib.Omega.{arith}
 use lib.ListN.{length, take}
-use Rattle.sphericalpoint.specs.Point.{normalized_unless_short}
 use Rattle.arcstring.specs.Points.{points, flat}
 use Rattle.arcstring.specs.Splice.{splice}
 use Rattle.arcstring_build.specs.Build.{normalized_all}
-use Rattle.arcstring.proofs.Splices.{splice_nothing}
-use Rattle.arcstring.proofs.Moves.{map-step, map_all}
 use Rattle.arcstring_build.proofs.inner.build_open.Given as goal
 
 abbrev pub invariant-loop-i : goal.invariant-loop-i

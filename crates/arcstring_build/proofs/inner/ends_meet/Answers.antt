@@ -1,6 +1,5 @@
 -- `ends_meet` compares the first and the last point, each normalised. Assumes nothing.
 use Rattle.arcstring_build.proofs.Builds.{ends_of}
-use borrow.Author.Rules.{rules}
 use Rattle.arcstring_build.proofs.inner.ends_meet.Goals as goal
 
 pub returns : goal.returns

@@ -1,12 +1,8 @@
 -- `normalize_points` normalises the first points of a list in place: after i turns the first i are normalised. Assumes nothing.
-use mathlib.Core.Path.{◌≡◌, refl, sym, ap, ◌∙◌}
-use Prim.Native.Nat.{◌≤◌, ◌-◌, ◌*◌}
+use mathlib.Core.Path.{refl, sym, ap, ◌∙◌}
+use Prim.Native.Nat.{◌-◌}
 use native.Mathlib.Omega.{arith}
-use lib.ListN.{length, take}
 use Rattle.sphericalpoint.specs.Point.{normalized_unless_short}
-use Rattle.arcstring.specs.Points.{points, flat}
-use Rattle.arcstring.specs.Splice.{splice}
-use Rattle.arcstring_build.specs.Build.{normalized_all}
 use Rattle.arcstring.proofs.Splices.{splice_nothing}
 use Rattle.arcstring.proofs.Moves.{map-step-in_place, map_all}
 use Rattle.arcstring_build.proofs.inner.normalize_points.Goals as goal

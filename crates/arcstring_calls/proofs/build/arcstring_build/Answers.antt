@@ -1,7 +1,6 @@
 -- The string's numbers are put into their places beside its floats, and a refusal changes nothing. Assumes nothing.
 use Rattle.arcstring_build.specs.Build.{build}
 use Rattle.arcstring_calls.proofs.Places.{built_as}
-use borrow.Author.Rules.{rules}
 use Rattle.arcstring_calls.proofs.build.arcstring_build.Goals as goal
 
 pub build-r-requires : goal.build-r-requires

@@ -1,7 +1,6 @@
 -- The string's number of vertices is put into its place beside its floats, and a refusal changes nothing. Assumes nothing.
 use Rattle.arcstring_build.specs.Build.{build_flagged}
 use Rattle.arcstring_calls.proofs.Places.{built_count_as}
-use borrow.Author.Rules.{rules}
 use Rattle.arcstring_calls.proofs.build.arcstring_build_flagged.Goals as goal
 
 pub is_closed-requires : goal.is_closed-requires

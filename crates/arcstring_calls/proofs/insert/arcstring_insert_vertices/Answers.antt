@@ -1,7 +1,6 @@
 -- The number of vertices is put into its place beside their floats, and a refusal changes nothing. Assumes nothing.
 use Rattle.arcstring_insert.specs.Insert.{insert_vertices}
 use Rattle.arcstring_calls.proofs.Places.{written_as}
-use borrow.Author.Rules.{rules}
 use Rattle.arcstring_calls.proofs.insert.arcstring_insert_vertices.Goals as goal
 
 pub is_closed-flag-requires : goal.is_closed-flag-requires

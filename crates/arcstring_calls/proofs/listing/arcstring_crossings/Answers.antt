@@ -1,7 +1,6 @@
 -- The listing's numbers are put into their places beside its points and marks, and a refusal changes nothing. Assumes nothing.
 use Rattle.arcstring_listing.specs.Listing.{crossings}
 use Rattle.arcstring_calls.proofs.Places.{listed_as}
-use borrow.Author.Rules.{rules}
 use Rattle.arcstring_calls.proofs.listing.arcstring_crossings.Goals as goal
 
 pub is_closed-first-requires : goal.is_closed-first-requires

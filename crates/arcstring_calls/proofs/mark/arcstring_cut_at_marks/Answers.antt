@@ -1,7 +1,6 @@
 -- The number of pieces is put into its place beside their floats, numbers and counts, and a refusal changes nothing. Assumes nothing.
 use Rattle.arcstring_mark_cut.specs.CutAtMarks.{cut_at_marks}
 use Rattle.arcstring_calls.proofs.Places.{pieces_as}
-use borrow.Author.Rules.{rules}
 use Rattle.arcstring_calls.proofs.mark.arcstring_cut_at_marks.Goals as goal
 
 pub is_closed-requires : goal.is_closed-requires

@@ -1,7 +1,6 @@
 -- The number of vertices is put into its place beside their floats, and a refusal changes nothing. Assumes nothing.
 use Rattle.arcstring_measure.specs.Measure.{midpoints}
 use Rattle.arcstring_calls.proofs.Places.{written_as}
-use borrow.Author.Rules.{rules}
 use Rattle.arcstring_calls.proofs.measure.arcstring_midpoints.Goals as goal
 
 pub is_closed-requires : goal.is_closed-requires

@@ -1,7 +1,6 @@
 -- How many floats were written is put into its place beside them, and a refusal changes nothing. Assumes nothing.
 use Rattle.arcstring_measure.specs.Measure.{turn_orientations}
 use Rattle.arcstring_calls.proofs.Places.{written_as}
-use borrow.Author.Rules.{rules}
 use Rattle.arcstring_calls.proofs.measure.arcstring_turn_orientations.Goals as goal
 
 pub is_closed-requires : goal.is_closed-requires

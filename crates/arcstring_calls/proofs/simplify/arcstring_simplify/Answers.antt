@@ -1,7 +1,6 @@
 -- The number of vertices left is put into its place beside their floats, and a refusal changes nothing. Assumes nothing.
 use Rattle.arcstring_simplify.specs.Simplify.{simplify}
 use Rattle.arcstring_calls.proofs.Places.{written_as}
-use borrow.Author.Rules.{rules}
 use Rattle.arcstring_calls.proofs.simplify.arcstring_simplify.Goals as goal
 
 pub is_closed-requires : goal.is_closed-requires

@@ -1,7 +1,6 @@
 -- The number of pieces is put into its place beside their floats, counts and flags, and a refusal changes nothing. Assumes nothing.
 use Rattle.arcstring_split.specs.Split.{split_string}
 use Rattle.arcstring_calls.proofs.Places.{pieces_as}
-use borrow.Author.Rules.{rules}
 use Rattle.arcstring_calls.proofs.split.arcstring_split.Goals as goal
 
 pub is_closed-requires : goal.is_closed-requires

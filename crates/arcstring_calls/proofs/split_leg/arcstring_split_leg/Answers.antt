@@ -1,7 +1,6 @@
 -- The number of pieces is put into its place beside their floats, and a refusal changes nothing. Assumes nothing.
 use Rattle.arcstring_split_leg.specs.SplitLeg.{split_leg}
 use Rattle.arcstring_calls.proofs.Places.{pieces_as}
-use borrow.Author.Rules.{rules}
 use Rattle.arcstring_calls.proofs.split_leg.arcstring_split_leg.Goals as goal
 
 pub leg_of_six-requires : goal.leg_of_six-requires

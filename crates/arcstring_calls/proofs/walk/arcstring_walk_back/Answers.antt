@@ -1,7 +1,6 @@
 -- The number of vertices is put into its place beside their floats, and a refusal changes nothing. Assumes nothing.
 use Rattle.arcstring_walk.specs.Walk.{walk_back}
 use Rattle.arcstring_calls.proofs.Places.{written_as}
-use borrow.Author.Rules.{rules}
 use Rattle.arcstring_calls.proofs.walk.arcstring_walk_back.Goals as goal
 
 pub walk_back-r-requires : goal.walk_back-r-requires

@@ -1,7 +1,6 @@
 -- The listing's numbers are put into their places beside its points and marks, and a refusal changes nothing. Assumes nothing.
 use Rattle.arcstring_self.specs.SelfListing.{self_crossings}
 use Rattle.arcstring_calls.proofs.Places.{listed_as}
-use borrow.Author.Rules.{rules}
 use Rattle.arcstring_calls.proofs.with_self.arcstring_crossings_with_self.Goals as goal
 
 pub crossings_with_self-r-requires : goal.crossings_with_self-r-requires

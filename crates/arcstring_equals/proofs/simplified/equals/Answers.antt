@@ -6,7 +6,6 @@ use Rattle.arcstring_check.proofs.Answers.{refused_in_turn, accepted_in_turn}
 use Rattle.arcstring_against.specs.Against.{two_strings}
 use Rattle.arcstring_equals.specs.Simplified.{equals}
 use Rattle.arcstring_against.proofs.Against.{four_accepted}
-use borrow.Author.Rules.{rules}
 use Rattle.arcstring_equals.proofs.simplified.equals.Goals as goal
 
 pub equals_strings-requires : goal.equals_strings-requires

@@ -4,7 +4,6 @@ use native.Mathlib.Omega.{arith}
 use lib.Seq.{length-take-le}
 use Rattle.arcstring_equals.proofs.Copies.{copy_refused, copy_stands, copy_accepted, copy_count}
 use Rattle.arcstring_equals.proofs.Equals.{longer_at_once, longer_refused, longer_answered}
-use borrow.Author.Rules.{rules}
 use Rattle.arcstring_equals.proofs.simplified.equals_longer.Goals as goal
 
 pub returns-then-equal_strings : goal.returns-then-equal_strings

@@ -4,7 +4,6 @@ use native.Mathlib.Omega.{arith}
 use lib.Seq.{length-take-le}
 use Rattle.arcstring_equals.proofs.Copies.{copy_refused, copy_stands, copy_accepted, copy_count}
 use Rattle.arcstring_equals.proofs.Equals.{shorter_refused, shorter_answered}
-use borrow.Author.Rules.{rules}
 use Rattle.arcstring_equals.proofs.simplified.equals_simplified.Goals as goal
 
 pub overflow_mul-end : goal.overflow_mul-end

@@ -1,6 +1,5 @@
 -- `equals_strings`: `==`, or the shorter of the two simplified first. Assumes nothing.
 use Rattle.arcstring_equals.proofs.Equals.{equal_at_once, left_shorter, left_no_shorter}
-use borrow.Author.Rules.{rules}
 use Rattle.arcstring_equals.proofs.simplified.equals_strings.Goals as goal
 
 pub returns-then-equal_strings : goal.returns-then-equal_strings

@@ -1,14 +1,10 @@
 -- `overlap_legs` seeks a leg with both ends along the other string: what the legs from vertex k - 1 on answer is the whole answer. Assumes nothing.
-use mathlib.Core.Path.{◌≡◌, refl, sym, ◌∙◌}
-use Prim.Native.Nat.{◌≤◌, ◌-◌, ◌*◌, ◌/◌}
-use native.Mathlib.Omega.{arith}
-use lib.ListN.{length, drop}
+use mathlib.Core.Path.{◌≡◌}
+use Prim.Native.Nat.{◌≤◌, ◌-◌}
+use lib.ListN.{drop}
 use Rattle.arcstring.specs.Points.{points}
-use Rattle.arcstring_check.proofs.Checks.{stored_whole, stored_some}
 use Rattle.arcstring_along.specs.OnString.{stored}
 use Rattle.arcstring_equals.specs.Simplified.{overlap_legs}
-use Rattle.arcstring_equals.proofs.Overlaps.{start-not-along, both_along, end_not-along, closed_end, open_end}
-use borrow.Author.Tests.{not-true, not-false}
 use Rattle.arcstring_equals.proofs.simplified.overlap_legs.Given as goal
 
 abbrev pub invariant-loop-k : goal.invariant-loop-k

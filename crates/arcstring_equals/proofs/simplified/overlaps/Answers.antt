@@ -2,7 +2,6 @@
 use mathlib.Core.List.{[], ◌∷◌}
 use mathlib.Core.Path.{◌≡◌, sym, ap, ◌∙◌}
 use mathlib.Core.Bool.{Bool}
-use borrow.Author.Tests.{not-true, not-false}
 use Rattle.arcstring_check.specs.Answer.{Answer, unless_refused, decided_answer}
 use Rattle.arcstring_check.specs.Check.{stored_check}
 use Rattle.arcstring_check.proofs.Answers.{refused_in_turn, accepted_in_turn}
@@ -10,7 +9,6 @@ use Rattle.arcstring_against.specs.Against.{two_strings}
 use Rattle.arcstring_equals.specs.Simplified.{overlaps}
 use Rattle.arcstring_equals.proofs.Equals.{copies_refused, copies_differ, copies_equal}
 use Rattle.arcstring_against.proofs.Against.{four_accepted}
-use borrow.Author.Rules.{rules}
 use Rattle.arcstring_equals.proofs.simplified.overlaps.Goals as goal
 
 pub returns-in-Refused : goal.returns-in-Refused

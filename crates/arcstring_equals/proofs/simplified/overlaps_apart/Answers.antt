@@ -1,6 +1,5 @@
 -- `overlaps_apart`: neither string within the other, and a leg with both ends along the other. Assumes nothing.
 use Rattle.arcstring_equals.proofs.Overlaps.{left-within, right_within, neither_within}
-use borrow.Author.Rules.{rules}
 use Rattle.arcstring_equals.proofs.simplified.overlaps_apart.Goals as goal
 
 pub returns-then-all_along : goal.returns-then-all_along

@@ -1,9 +1,8 @@
 -- `insert_buoy` moves the numbers from the end on one place further, and writes the number: before each turn those from i on have been moved. Assumes nothing.
-use mathlib.Core.Path.{◌≡◌, refl}
-use Prim.Native.Nat.{◌+◌, ◌-◌, ◌≤◌}
+use mathlib.Core.Path.{refl}
+use Prim.Native.Nat.{◌-◌}
 use native.Mathlib.Omega.{arith}
-use lib.ListN.{length, take, drop, length-set}
-use Rattle.arcstring.specs.Splice.{splice}
+use lib.ListN.{length-set}
 use Rattle.arcstring_insert.proofs.Moved.{moved_none, moved_step, put_before}
 use Rattle.arcstring_insert.proofs.inner.insert_buoy.Goals as goal
 

@@ -1,6 +1,5 @@
 -- `insert_numbered` puts the point in among the vertices, and the number among theirs: so the vertex among the vertices. Assumes nothing.
 use mathlib.Core.Path.{refl}
-use borrow.Author.Rules.{rules}
 use Rattle.arcstring_insert.proofs.Inserted.{vertices_inserted}
 use Rattle.arcstring_insert.proofs.inner.insert_numbered.Goals as goal
 

@@ -1,9 +1,8 @@
 -- `insert_vertex` moves vertices one place further, the last one first, and writes the point: before each turn those from i on are moved. Assumes nothing.
-use mathlib.Core.Path.{◌≡◌, refl, ◌∙◌}
+use mathlib.Core.Path.{◌≡◌}
 use Prim.Native.Nat.{◌≤◌, ◌-◌}
-use native.Mathlib.Omega.{arith}
 use lib.ListN.{length}
-use Rattle.arcstring_insert.proofs.Shifts.{shifted, shift_none, shift_step, shift_all}
+use Rattle.arcstring_insert.proofs.Shifts.{shifted}
 use Rattle.arcstring_insert.proofs.inner.insert_vertex.Given as goal
 
 abbrev pub invariant-loop-i : goal.invariant-loop-i

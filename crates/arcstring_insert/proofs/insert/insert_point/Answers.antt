@@ -1,20 +1,13 @@
 -- `insert_point` walks over the legs: the walk that is left, from the vertices that stand in the lists, gives the whole answer. Assumes nothing.
-use mathlib.Core.Path.{◌≡◌, refl, sym, ◌∙◌}
-use Prim.Native.Nat.{◌≤◌, ◌+◌, ◌-◌, ◌*◌}
+use mathlib.Core.Path.{refl, sym, ◌∙◌}
+use Prim.Native.Nat.{◌-◌, ◌*◌}
 use native.Mathlib.Omega.{arith}
-use lib.ListN.{length}
 use lib.Seq.{length-take-le}
-use borrow.Author.Tests.{not-true, not-false}
-use Rattle.arcstring.specs.Points.{place_of}
-use Rattle.arcstring_check.specs.Check.{most_points}
-use Rattle.arcstring_insert.specs.Insert.{insert_point, insert_walk}
-use Rattle.arcstring_insert.proofs.Inserted.{first_vertices}
 use Rattle.arcstring_insert.proofs.InsertWalks.{walk_begin, walk_past, walk_full, walk_on, walk_end, leg-within, past_numbers, on_numbers}
 use Rattle.arcstring_insert.proofs.insert.insert_point.Goals as goal
 
 pub loop-i-init : goal.loop-i-init
-loop-i-init c =
-    (
+loop-i-init c = (
   omega arith,
   omega arith,
   c.requires.1,

@@ -1,13 +1,9 @@
 -- `insert_points` puts in each of the vertices in turn: those left, put in among the vertices that stand in the lists, give the whole answer. Assumes nothing.
-use mathlib.Core.Path.{◌≡◌, refl, ◌∙◌}
-use Prim.Native.Nat.{◌≤◌, ◌-◌}
+use mathlib.Core.Path.{refl, ◌∙◌}
+use Prim.Native.Nat.{◌-◌}
 use native.Mathlib.Omega.{arith}
-use lib.ListN.{length, drop}
-use Rattle.arcstring.specs.Points.{numbered, place_of, points}
 use Rattle.arcstring_check.specs.Check.{most_points}
-use Rattle.arcstring_insert.specs.Steps.{for_each}
-use Rattle.arcstring_insert.specs.Insert.{insert_point, inserted}
-use Rattle.arcstring_insert.proofs.Inserted.{first_vertices}
+use Rattle.arcstring_insert.specs.Insert.{inserted}
 use Rattle.arcstring.proofs.Written.{held_at_most}
 use Rattle.arcstring_insert.proofs.Inserts.{points_end, points_stop, points_on, points_longer}
 use Rattle.arcstring_insert.proofs.insert.insert_points.Goals as goal

@@ -1,7 +1,6 @@
 -- The room of the points is checked, then that of the marks. Assumes nothing.
 use mathlib.Core.Path.{◌∙◌}
 use Rattle.arcstring_check.proofs.Answers.{both_numbers}
-use borrow.Author.Rules.{rules}
 use Rattle.arcstring_listing.proofs.inner.check_buffers.Goals as goal
 
 pub returns : goal.returns

@@ -1,7 +1,6 @@
 -- The string is checked, then the margin. Assumes nothing.
 use mathlib.Core.Path.{◌∙◌}
 use Rattle.arcstring_check.proofs.Answers.{both_numbers}
-use borrow.Author.Rules.{rules}
 use Rattle.arcstring_listing.proofs.inner.check_last.Goals as goal
 
 pub returns : goal.returns

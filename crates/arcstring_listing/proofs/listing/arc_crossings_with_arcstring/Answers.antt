@@ -10,7 +10,6 @@ use Rattle.arcstring.specs.Leg.{leg_of, leg_check}
 use Rattle.arcstring_listing.specs.Listing.{listing_of, in_room, leg_crossings}
 use Rattle.arcstring_listing.proofs.Listings.{refused_leaves, leaves_as}
 use Rattle.arcstring_listing.proofs.Visits.{accepted_as, visits_as}
-use borrow.Author.Rules.{rules}
 use Rattle.arcstring_listing.proofs.listing.arc_crossings_with_arcstring.Goals as goal
 
 pub check_leg-requires : goal.check_leg-requires

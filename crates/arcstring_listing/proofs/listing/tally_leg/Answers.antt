@@ -3,7 +3,6 @@ use mathlib.Core.Path.{ap, ◌∙◌}
 use lib.Ieee.{of_bits}
 use Rattle.arcstring_tally.specs.Tally.{no_tally, tally_on}
 use Rattle.arcstring_listing.proofs.Visits.{accepted_as, visits_as}
-use borrow.Author.Rules.{rules}
 use Rattle.arcstring_listing.proofs.listing.tally_leg.Goals as goal
 
 pub tally_two-requires : goal.tally_two-requires

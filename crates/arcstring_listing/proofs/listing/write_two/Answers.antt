@@ -1,7 +1,6 @@
 -- What the pairs of two accepted strings keep is written, where they keep any. Assumes nothing.
 use mathlib.Core.Path.{sym, ◌∙◌}
 use Rattle.arcstring_tally.proofs.Marks.{nothing_of, none_written}
-use borrow.Author.Rules.{rules}
 use Rattle.arcstring_listing.proofs.listing.write_two.Goals as goal
 
 pub returns-then-kept-eq0 : goal.returns-then-kept-eq0

@@ -3,7 +3,6 @@ use mathlib.Core.Path.{ap₂, ◌∙◌}
 use Rattle.sphericalpoint.specs.declared.SphericalPoint.{SphericalPoint}
 use Rattle.arcstring.specs.Leg.{leg}
 use Rattle.arcstring_mark.specs.Mark.{mark_on_leg}
-use borrow.Author.Rules.{rules}
 use Rattle.arcstring_mark.proofs.mark.arc_holds.Goals as goal
 
 pub returns : goal.returns

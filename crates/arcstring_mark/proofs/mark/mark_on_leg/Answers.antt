@@ -6,7 +6,6 @@ use Rattle.arcstring_check.specs.Check.{check_number, point_check}
 use Rattle.arcstring_check.proofs.Answers.{refused_in_turn, accepted_in_turn, both_numbers}
 use Rattle.arcstring.specs.Leg.{leg_of, leg_check}
 use Rattle.arcstring_mark.specs.Mark.{on_leg}
-use borrow.Author.Rules.{rules}
 use Rattle.arcstring_mark.proofs.mark.mark_on_leg.Goals as goal
 
 pub returns-in-Refused : goal.returns-in-Refused

@@ -5,7 +5,6 @@ use Rattle.arcstring_check.specs.Answer.{answered, first_of}
 use Rattle.arcstring_check.specs.Check.{check_number, stored_check, point_check}
 use Rattle.arcstring_check.proofs.Answers.{refused_in_turn, accepted_in_turn, passed_in_turn, both_numbers}
 use Rattle.arcstring_mark.specs.Mark.{on_string}
-use borrow.Author.Rules.{rules}
 use Rattle.arcstring_mark.proofs.mark.mark_on_string.Goals as goal
 
 pub string_holds-requires : goal.string_holds-requires

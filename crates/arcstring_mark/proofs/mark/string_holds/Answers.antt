@@ -1,7 +1,6 @@
 -- Whether the walk over the legs finds one that holds the mark. Assumes nothing.
 use Rattle.arcstring_check.proofs.Checks.{stored_whole, stored_some}
 use Rattle.arcstring_mark.proofs.HoldingLegs.{found_holding, nothing_holding}
-use borrow.Author.Rules.{rules}
 use Rattle.arcstring_mark.proofs.mark.string_holds.Goals as goal
 
 pub leg_count-requires : goal.leg_count-requires

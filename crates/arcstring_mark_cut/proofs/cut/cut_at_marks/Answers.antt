@@ -2,7 +2,6 @@
 -- nothing.
 use mathlib.Core.Path.{◌≡◌, refl, ◌∙◌}
 use native.Mathlib.Omega.{arith}
-use borrow.Author.Rules.{rules}
 use Rattle.arcstring_check.specs.Answer.{first_of}
 use Rattle.arcstring_check.specs.Check.{check_number, string_check, points_check}
 use Rattle.arcstring_check.proofs.Answers.{both_numbers}

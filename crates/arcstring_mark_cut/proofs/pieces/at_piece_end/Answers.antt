@@ -1,5 +1,4 @@
 -- `at_piece_end` tests the mark against the first and the last vertex of the run. Assumes nothing.
-use borrow.Author.Rules.{rules}
 use Rattle.arcstring_mark_cut.proofs.PieceEnds.{ends_tested}
 use Rattle.arcstring_mark_cut.proofs.pieces.at_piece_end.Goals as goal
 

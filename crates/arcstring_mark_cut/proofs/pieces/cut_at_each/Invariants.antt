@@ -1,15 +1,11 @@
 -- `cut_at_each` takes the marks in turn: those that are left, from the pieces that stand in the lists, give the whole answer. Assumes nothing.
-use mathlib.Core.Path.{◌≡◌, refl, ◌∙◌}
+use mathlib.Core.Path.{◌≡◌}
 use Prim.Native.Nat.{◌≤◌, ◌-◌}
-use native.Mathlib.Omega.{arith}
-use borrow.Author.Rules.{rules}
 use lib.ListN.{length, drop}
 use Rattle.arcstring.specs.Points.{numbered, place_of, points}
 use Rattle.arcstring_insert.specs.Steps.{for_each}
 use Rattle.arcstring_mark_cut.specs.CutAtMarks.{cut_at_mark}
 use Rattle.arcstring_mark_cut.specs.Standing.{standing, Stands}
-use Rattle.arcstring_mark_cut.proofs.EachMark.{marks_end, marks_stop, marks_on}
-use Rattle.arcstring_mark_cut.proofs.HandedPieces.{left_stand}
 use Rattle.arcstring_mark_cut.proofs.pieces.cut_at_each.Given as goal
 
 abbrev pub invariant-loop-i : goal.invariant-loop-i

@@ -1,16 +1,12 @@
 -- `cut_at_mark` walks over the pieces: what the mark makes of those from k on, behind those before, is the whole answer. Assumes nothing.
-use mathlib.Core.Path.{◌≡◌, refl, ◌∙◌}
+use mathlib.Core.Path.{refl, ◌∙◌}
 use Prim.Native.Nat.{◌≤◌, ◌+◌, ◌-◌, ◌*◌}
 use native.Mathlib.Omega.{arith}
-use borrow.Author.Rules.{rules}
-use lib.ListN.{length, get_or, take, drop}
-use Rattle.arcstring.specs.Points.{place_of}
-use Rattle.arcstring_piece.specs.Pieces.{sum}
-use Rattle.arcstring_mark_cut.specs.CutAtMarks.{cut_first, checked_cut, cut_at_mark}
+use lib.ListN.{length, get_or}
 use Rattle.arcstring_piece.proofs.inner.replace.Sums.{sum-next}
-use Rattle.arcstring_mark_cut.specs.Standing.{opened_room, standing, Stands}
+use Rattle.arcstring_mark_cut.specs.Standing.{opened_room}
 use Rattle.arcstring_mark_cut.proofs.MarkCuts.{few_pieces}
-use Rattle.arcstring_mark_cut.proofs.MarkWalks.{behind, walk_begin, walk_end, part_room, part_length, walk_on, walk_cuts, leg_inside}
+use Rattle.arcstring_mark_cut.proofs.MarkWalks.{walk_begin, walk_end, part_room, part_length, walk_on, walk_cuts, leg_inside}
 use Rattle.arcstring_mark_cut.proofs.pieces.cut_at_mark.Goals as goal
 
 pub loop-k-init : goal.loop-k-init

@@ -1,8 +1,6 @@
 -- `open_string` copies the vertices and their numbers, and of a closed string vertex 0 once more behind them. Assumes nothing.
 use mathlib.Core.Path.{refl, ◌∙◌}
 use native.Mathlib.Omega.{arith}
-use borrow.Author.Rules.{rules}
-use borrow.Author.Tests.{not-true, not-false}
 use Rattle.arcstring_mark_cut.specs.Standing.{opened_room}
 use Rattle.arcstring_mark_cut.proofs.OpenedStrings.{opened_open, opened_closed}
 use Rattle.arcstring_mark_cut.proofs.pieces.open_string.Goals as goal

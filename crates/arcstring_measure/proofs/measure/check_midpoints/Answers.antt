@@ -1,7 +1,6 @@
 -- The checks of the vertices, with 2 for an open string of one vertex. Assumes nothing.
 use mathlib.Core.Path.{◌∙◌}
 use Rattle.arcstring_measure.proofs.Midpoints.{no_vertex, no_leg, some_leg}
-use borrow.Author.Rules.{rules}
 use Rattle.arcstring_measure.proofs.measure.check_midpoints.Goals as goal
 
 pub returns-then-v-eq0 : goal.returns-then-v-eq0

@@ -1,6 +1,5 @@
 -- The midpoint of a leg. Assumes nothing.
 use Rattle.arcstring_measure.specs.Measure.{midpoint}
-use borrow.Author.Rules.{rules}
 use Rattle.arcstring_measure.proofs.measure.midpoint_of.Goals as goal
 
 pub returns : goal.returns

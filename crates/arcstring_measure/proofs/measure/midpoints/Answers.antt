@@ -2,7 +2,6 @@
 use mathlib.Core.Path.{sym, ap, ◌∙◌}
 use Rattle.arcstring_check.specs.Check.{check_number}
 use Rattle.arcstring_measure.proofs.Midpoints.{midpoints_some, refused_midpoints, accepted_triples, cramped_midpoints, written_midpoints}
-use borrow.Author.Rules.{rules}
 use Rattle.arcstring_measure.proofs.measure.midpoints.Goals as goal
 
 pub returns-in-Refused : goal.returns-in-Refused

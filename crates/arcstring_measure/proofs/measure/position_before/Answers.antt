@@ -1,7 +1,6 @@
 -- The position before another, around the vertices. Assumes nothing.
 use native.Mathlib.Omega.{arith}
 use Rattle.arcstring_measure.proofs.Turns.{before_first, before_other}
-use borrow.Author.Rules.{rules}
 use Rattle.arcstring_measure.proofs.measure.position_before.Goals as goal
 
 pub returns-then-k-eq0 : goal.returns-then-k-eq0

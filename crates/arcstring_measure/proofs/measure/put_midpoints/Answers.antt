@@ -1,15 +1,8 @@
 -- The midpoints written one after the other: after k turns those of the first k legs are written. Assumes nothing.
-use mathlib.Core.Path.{◌≡◌, refl, ◌∙◌}
-use mathlib.Core.List.{map}
-use Prim.Native.Nat.{◌≤◌, ◌-◌}
+use mathlib.Core.Path.{refl, ◌∙◌}
+use Prim.Native.Nat.{◌-◌}
 use native.Mathlib.Omega.{arith}
-use lib.ListN.{length}
-use Rattle.arcstring.specs.Points.{flat}
-use Rattle.arcstring.specs.Splice.{splice}
-use Rattle.arcstring.specs.Leg.{legs_from}
-use Rattle.arcstring_measure.specs.Measure.{midpoint}
 use Rattle.arcstring_measure.proofs.Midpoints.{midpoints_none, midpoints-step, midpoints_all}
-use borrow.Author.Rules.{rules}
 use Rattle.arcstring_measure.proofs.measure.put_midpoints.Goals as goal
 
 pub loop-k-init : goal.loop-k-init

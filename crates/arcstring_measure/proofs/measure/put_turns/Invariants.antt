@@ -1,13 +1,10 @@
 -- The turn orientations written one after the other: after k turns those of the first k vertices are written. Assumes nothing.
-use mathlib.Core.Path.{◌≡◌, refl, ◌∙◌}
+use mathlib.Core.Path.{◌≡◌}
 use Prim.Native.Nat.{◌≤◌, ◌-◌}
-use native.Mathlib.Omega.{arith}
-use lib.ListN.{length, length-set}
+use lib.ListN.{length}
 use Rattle.arcstring.specs.Points.{points}
 use Rattle.arcstring.specs.Splice.{splice}
 use Rattle.arcstring_measure.specs.Measure.{turns_to}
-use Rattle.arcstring_measure.proofs.Turns.{turns_none, turns_step, turns_all}
-use borrow.Author.Rules.{rules}
 use Rattle.arcstring_measure.proofs.measure.put_turns.Given as goal
 
 abbrev pub invariant-loop-k : goal.invariant-loop-k

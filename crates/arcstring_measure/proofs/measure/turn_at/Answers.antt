@@ -1,6 +1,5 @@
 -- The turn orientation at a vertex: NaN at an open end, else from the vertices before and after it. Assumes nothing.
 use Rattle.arcstring_measure.proofs.Turns.{nought_by_nought, no_turn, turn_there}
-use borrow.Author.Rules.{rules}
 use Rattle.arcstring_measure.proofs.measure.turn_at.Goals as goal
 
 pub returns-then-closed-k : goal.returns-then-closed-k

@@ -1,6 +1,5 @@
 -- The source's sum at a vertex between two others. Assumes nothing.
 use Rattle.arcstring_measure.specs.Measure.{turn}
-use borrow.Author.Rules.{rules}
 use Rattle.arcstring_measure.proofs.measure.turn_between.Goals as goal
 
 pub returns : goal.returns

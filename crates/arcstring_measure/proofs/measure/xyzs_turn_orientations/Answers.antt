@@ -2,7 +2,6 @@
 use mathlib.Core.Path.{◌∙◌}
 use Rattle.arcstring_check.proofs.Answers.{both_numbers}
 use Rattle.arcstring_measure.proofs.Turns.{refused_turns, written_turns, turns_triples, turns_room}
-use borrow.Author.Rules.{rules}
 use Rattle.arcstring_measure.proofs.measure.xyzs_turn_orientations.Goals as goal
 
 pub put_turns-requires : goal.put_turns-requires

@@ -5,7 +5,6 @@ use Rattle.arcstring_check.specs.Check.{point_check}
 use Rattle.sphericalpoint.specs.Point.{point_from}
 use Rattle.arcstring_point.specs.Point.{built_point}
 use Rattle.arcstring_check.proofs.Answers.{answer_refused, answer_accepted}
-use borrow.Author.Rules.{rules}
 use Rattle.arcstring_point.proofs.point.point_from.Goals as goal
 
 pub returns-in-Refused : goal.returns-in-Refused

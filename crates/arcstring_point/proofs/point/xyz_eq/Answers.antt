@@ -5,7 +5,6 @@ use Rattle.arcstring_check.specs.Answer.{answered}
 use Rattle.arcstring_check.specs.Check.{point_check}
 use Rattle.arcstring_point.specs.Point.{equal_points}
 use Rattle.arcstring_check.proofs.Answers.{refused_in_turn, accepted_in_turn, both_numbers}
-use borrow.Author.Rules.{rules}
 use Rattle.arcstring_point.proofs.point.xyz_eq.Goals as goal
 
 pub returns-in-Refused : goal.returns-in-Refused

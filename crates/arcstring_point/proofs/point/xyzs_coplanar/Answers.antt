@@ -5,7 +5,6 @@ use Rattle.arcstring_check.specs.Answer.{answered, first_of}
 use Rattle.arcstring_check.specs.Check.{check_number, point_check}
 use Rattle.arcstring_point.specs.Point.{coplanar_points}
 use Rattle.arcstring_check.proofs.Answers.{refused_in_turn, accepted_in_turn, both_numbers}
-use borrow.Author.Rules.{rules}
 use Rattle.arcstring_point.proofs.point.xyzs_coplanar.Goals as goal
 
 pub returns-in-Refused : goal.returns-in-Refused

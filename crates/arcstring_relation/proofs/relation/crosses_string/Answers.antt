@@ -1,7 +1,6 @@
 -- Neither string within the other, and then whether a pair of their legs keeps a point. Assumes nothing.
 use lib.Ieee.{of_bits}
 use Rattle.arcstring_relation.proofs.Relations.{left-within, right_within, some_kept}
-use borrow.Author.Rules.{rules}
 use Rattle.arcstring_relation.proofs.relation.crosses_string.Goals as goal
 
 pub returns-then-all_along : goal.returns-then-all_along

@@ -7,7 +7,6 @@ use Rattle.arcstring_check.proofs.Answers.{refused_in_turn, accepted_in_turn}
 use Rattle.arcstring_against.specs.Against.{two_strings}
 use Rattle.arcstring_relation.specs.Relation.{equal}
 use Rattle.arcstring_against.proofs.Against.{four_accepted}
-use borrow.Author.Rules.{rules}
 use Rattle.arcstring_relation.proofs.relation.eq.Goals as goal
 
 pub equal_strings-requires : goal.equal_strings-requires

@@ -6,7 +6,6 @@ use Rattle.arcstring_check.specs.Check.{stored_check}
 use Rattle.arcstring_check.proofs.Answers.{refused_in_turn, accepted_in_turn}
 use Rattle.arcstring_relation.specs.Relation.{within}
 use Rattle.arcstring_against.proofs.Against.{three_accepted}
-use borrow.Author.Rules.{rules}
 use Rattle.arcstring_relation.proofs.relation.within.Goals as goal
 
 pub all_along-requires : goal.all_along-requires

@@ -1,12 +1,11 @@
 -- `keep` copies the first position and those that the walk keeps: what stands in `next` and what the walk still keeps is the whole. Assumes nothing.
 use mathlib.Core.Bool.{not}
 use mathlib.Core.Path.{◌≡◌, refl, ap, ◌∙◌}
-use mathlib.Core.List.{◌++◌, map}
-use Prim.Native.Nat.{◌≤◌, ◌+◌, ◌-◌}
+use mathlib.Core.List.{map}
+use Prim.Native.Nat.{◌-◌}
 use native.Mathlib.Omega.{arith}
-use lib.ListN.{length, take, drop, length-set}
+use lib.ListN.{length, length-set}
 use Rattle.arcstring.specs.Points.{point_at}
-use Rattle.arcstring_rounds.specs.Kept.{kept_from, kept_vertices}
 use Rattle.arcstring_rounds.proofs.inner.Keeps.{keep-start, pass_over, keep_on, keep_end}
 use Rattle.arcstring_rounds.proofs.inner.keep.Goals as goal
 use Rattle.arcstring_rounds.proofs.inner.keep.Goals.{then-not-unnecessary, else-not-unnecessary}

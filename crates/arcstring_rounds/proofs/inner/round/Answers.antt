@@ -6,7 +6,6 @@ use native.Mathlib.Omega.{arith}
 use lib.ListN.{length-map}
 use Rattle.arcstring.specs.Points.{point_at}
 use Rattle.arcstring_rounds.proofs.inner.OneRound.{left_of_open, left_by_first, left_past_end, left_shifted}
-use borrow.Author.Rules.{rules}
 use Rattle.arcstring_rounds.proofs.inner.round.Goals as goal
 
 pub returns-then-not-closed : goal.returns-then-not-closed

@@ -7,7 +7,6 @@ use lib.Seq.{length-take-le}
 use Rattle.arcstring.proofs.Written.{held_at_most}
 use Rattle.arcstring_check.proofs.Checks.{stored_whole}
 use Rattle.arcstring_rounds.proofs.Left.{left-within, points_refused, points_accepted, points_past_end, points_no_room, points_done}
-use borrow.Author.Rules.{rules}
 use Rattle.arcstring_rounds.proofs.inner.simplify_points.Goals as goal
 
 pub returns-in-Refused : goal.returns-in-Refused

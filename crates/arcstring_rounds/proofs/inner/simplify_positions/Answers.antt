@@ -4,7 +4,6 @@ use native.Mathlib.Omega.{arith}
 use lib.ListN.{length}
 use Rattle.arcstring.specs.Points.{point_at}
 use Rattle.arcstring_rounds.proofs.Left.{fresh_within, fresh_rounds}
-use borrow.Author.Rules.{rules}
 use Rattle.arcstring_rounds.proofs.inner.simplify_positions.Goals as goal
 
 pub simplify_rounds-requires : goal.simplify_rounds-requires

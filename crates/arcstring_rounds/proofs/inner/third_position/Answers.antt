@@ -1,6 +1,5 @@
 -- `third_position` gives the next vertex, and vertex 2 for the last. Assumes nothing.
 use native.Mathlib.Omega.{arith}
-use borrow.Author.Rules.{rules}
 use Rattle.arcstring_rounds.proofs.inner.Judgements.{third_next, third_of_last}
 use Rattle.arcstring_rounds.proofs.inner.third_position.Goals as goal
 

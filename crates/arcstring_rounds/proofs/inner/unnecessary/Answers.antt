@@ -3,7 +3,6 @@ use Prim.Native.Nat.{◌-◌}
 use native.Mathlib.Omega.{arith}
 use Rattle.arcstring.specs.Points.{point_at}
 use Rattle.arcstring_rounds.proofs.inner.Judgements.{judged}
-use borrow.Author.Rules.{rules}
 use Rattle.arcstring_rounds.proofs.inner.unnecessary.Goals as goal
 
 pub vertex_at-a-requires : goal.vertex_at-a-requires

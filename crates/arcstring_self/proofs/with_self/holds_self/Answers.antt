@@ -11,7 +11,6 @@ use Rattle.arcstring_listing.proofs.Bounds.{pairs_fit, points-held}
 use Rattle.arcstring_self.proofs.SelfBounds.{half-points_fit, half-held}
 use Rattle.arcstring_visit.proofs.Rows.{product_small}
 use Rattle.arcstring_self.proofs.SelfVisits.{kept_self, kept_few}
-use borrow.Author.Rules.{rules}
 use Rattle.arcstring_self.proofs.with_self.holds_self.Goals as goal
 
 pub returns-then-n-lt4 : goal.returns-then-n-lt4

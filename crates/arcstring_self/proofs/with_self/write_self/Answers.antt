@@ -2,7 +2,6 @@
 use mathlib.Core.Path.{sym, ◌∙◌}
 use Rattle.arcstring_self.proofs.NormalizedListings.{none_normalized}
 use Rattle.arcstring_tally.proofs.Marks.{nothing_of}
-use borrow.Author.Rules.{rules}
 use Rattle.arcstring_self.proofs.with_self.write_self.Goals as goal
 
 pub returns-then-kept-eq0 : goal.returns-then-kept-eq0

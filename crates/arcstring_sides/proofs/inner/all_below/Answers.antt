@@ -2,7 +2,6 @@
 use lib.Ieee.{of_bits}
 use Rattle.arcstring_sides.specs.Sides.{is_below}
 use Rattle.arcstring_sides.proofs.Signs.{every_of_four}
-use borrow.Author.Rules.{rules}
 use Rattle.arcstring_sides.proofs.inner.all_below.Goals as goal
 
 pub returns : goal.returns

@@ -1,7 +1,6 @@
 -- All four side values have the sign bit set. Assumes nothing.
 use Rattle.arcstring_sides.specs.Sides.{sign_negative}
 use Rattle.arcstring_sides.proofs.Signs.{every_tested}
-use borrow.Author.Rules.{rules}
 use Rattle.arcstring_sides.proofs.inner.all_sign_negative.Goals as goal
 
 pub is_sign_negative-requires : goal.is_sign_negative-requires

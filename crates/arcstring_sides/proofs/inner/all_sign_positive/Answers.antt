@@ -1,7 +1,6 @@
 -- All four side values have the sign bit clear. Assumes nothing.
 use Rattle.arcstring_sides.specs.Sides.{sign_positive}
 use Rattle.arcstring_sides.proofs.Signs.{every_tested}
-use borrow.Author.Rules.{rules}
 use Rattle.arcstring_sides.proofs.inner.all_sign_positive.Goals as goal
 
 pub is_sign_positive-requires : goal.is_sign_positive-requires

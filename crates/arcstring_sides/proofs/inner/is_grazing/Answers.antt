@@ -1,6 +1,5 @@
 -- A side value grazes where its magnitude is at most the margin. Assumes nothing.
 use mathlib.Core.Path.{refl}
-use borrow.Author.Rules.{rules}
 use Rattle.ieee754.proofs.Comparisons.{le-value}
 use Rattle.arcstring_sides.specs.Sides.{grazes}
 use Rattle.arcstring_sides.proofs.inner.is_grazing.Goals as goal

@@ -1,6 +1,5 @@
 -- The least of the products is one of them. Assumes nothing.
 use Rattle.arcstring_sides.proofs.Aparts.{products_differ}
-use borrow.Author.Rules.{rules}
 use Rattle.arcstring_sides.proofs.inner.least_product.Goals as goal
 
 pub returns : goal.returns

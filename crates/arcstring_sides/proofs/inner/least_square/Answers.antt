@@ -1,6 +1,5 @@
 -- The least of the squares: each is above what it is above. Assumes nothing.
 use Rattle.arcstring_sides.proofs.Aparts.{squares_clear}
-use borrow.Author.Rules.{rules}
 use Rattle.arcstring_sides.proofs.inner.least_square.Goals as goal
 
 pub returns : goal.returns

@@ -1,7 +1,6 @@
 -- The side values show that a pair is apart: none grazes, and the signs differ. Assumes nothing.
 use lib.Ieee.{of_bits}
 use Rattle.arcstring_sides.proofs.Aparts.{both_tested}
-use borrow.Author.Rules.{rules}
 use Rattle.arcstring_sides.proofs.inner.shows_apart.Goals as goal
 
 pub returns : goal.returns

@@ -1,7 +1,6 @@
 -- Some of the four side values grazes. Assumes nothing.
 use Rattle.arcstring_sides.specs.Sides.{grazes}
 use Rattle.arcstring_sides.proofs.Signs.{some_tested}
-use borrow.Author.Rules.{rules}
 use Rattle.arcstring_sides.proofs.inner.some_grazing.Goals as goal
 
 pub is_grazing-requires : goal.is_grazing-requires

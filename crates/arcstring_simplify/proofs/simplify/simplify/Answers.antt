@@ -4,7 +4,6 @@ use native.Mathlib.Omega.{arith}
 use Rattle.arcstring_check.specs.Check.{check_number, string_check}
 use Rattle.arcstring_check.proofs.Checks.{stored_whole, string-stored}
 use Rattle.arcstring_simplify.proofs.Simplifies.{simplify_refused}
-use borrow.Author.Rules.{rules}
 use Rattle.arcstring_simplify.proofs.simplify.simplify.Goals as goal
 
 pub returns-in-Refused : goal.returns-in-Refused

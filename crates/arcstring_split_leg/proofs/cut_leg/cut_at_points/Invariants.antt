@@ -1,14 +1,12 @@
 -- `cut_at_points` cuts at each of the points in turn: those that are left, from the legs that stand in the list, give the whole answer. Assumes nothing.
-use mathlib.Core.Path.{◌≡◌, refl, ◌∙◌}
+use mathlib.Core.Path.{◌≡◌}
 use Prim.Native.Nat.{◌≤◌, ◌-◌}
-use native.Mathlib.Omega.{arith}
 use lib.ListN.{length, drop}
 use Rattle.arcstring.specs.Points.{points}
 use Rattle.arcstring.specs.Work.{first_of_list}
 use Rattle.arcstring_insert.specs.Steps.{for_each}
 use Rattle.arcstring_split_leg.specs.Legs.{legs_of, most_legs}
 use Rattle.arcstring_split_leg.specs.SplitLeg.{cut_legs}
-use Rattle.arcstring_split_leg.proofs.LegSplits.{cuts_end, cuts_stop, cuts_on, cut_at_most}
 use Rattle.arcstring_split_leg.proofs.LegPairs.{first_legs}
 use Rattle.arcstring_split_leg.proofs.cut_leg.cut_at_points.Given as goal
 

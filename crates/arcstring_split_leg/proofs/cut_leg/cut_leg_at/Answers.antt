@@ -1,7 +1,6 @@
 -- `cut_leg_at` leaves a leg that the point does not cut; else the point is written over its end, and put in twice behind it. Assumes nothing.
 use Prim.Native.Nat.{◌<◌}
 use native.Mathlib.Omega.{arith}
-use borrow.Author.Tests.{not-true, not-false}
 use Rattle.arcstring_split_leg.specs.Legs.{most_legs}
 use Rattle.arcstring_split_leg.proofs.LegCuts.{place_uncut, place_full, place_cut}
 use Rattle.arcstring_split_leg.proofs.cut_leg.cut_leg_at.Goals as goal

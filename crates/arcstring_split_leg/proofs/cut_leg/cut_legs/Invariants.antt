@@ -1,12 +1,10 @@
 -- `cut_legs` cuts at one point, place after place: the places that are left, from the legs that stand in the list, give the whole answer. Assumes nothing.
-use mathlib.Core.Path.{◌≡◌, refl, ◌∙◌}
+use mathlib.Core.Path.{◌≡◌}
 use Prim.Native.Nat.{◌≤◌, ◌-◌}
-use native.Mathlib.Omega.{arith}
 use lib.ListN.{length}
 use Rattle.arcstring_insert.specs.Steps.{for_positions}
 use Rattle.arcstring_split_leg.specs.Legs.{most_legs}
 use Rattle.arcstring_split_leg.specs.SplitLeg.{cut_leg_at, cut_legs}
-use Rattle.arcstring_split_leg.proofs.LegSplits.{places_begin, places_end, places_stop, places_on, places_longer, cut_at_most}
 use Rattle.arcstring_split_leg.proofs.LegPairs.{first_legs}
 use Rattle.arcstring_split_leg.proofs.cut_leg.cut_legs.Given as goal
 

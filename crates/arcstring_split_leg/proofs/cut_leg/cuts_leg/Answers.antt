@@ -1,5 +1,4 @@
 -- `cuts_leg` tests the leg's start, its end, and whether the point is along it. Assumes nothing.
-use native.Mathlib.Omega.{arith}
 use Rattle.arcstring_split_leg.proofs.LegCuts.{at_start, at-end, between_ends_lem}
 use Rattle.arcstring_split_leg.proofs.cut_leg.cuts_leg.Goals as goal
 

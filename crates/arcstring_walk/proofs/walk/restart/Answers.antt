@@ -4,7 +4,6 @@ use native.Mathlib.Omega.{arith}
 use lib.ListN.{length}
 use Rattle.arcstring.proofs.Written.{both_fit}
 use Rattle.arcstring_walk.proofs.Walks.{accepted_triples, accepted_buoys, restart-within, restart_refused, restart_short, restart_written}
-use borrow.Author.Rules.{rules}
 use Rattle.arcstring_walk.proofs.walk.restart.Goals as goal
 
 pub returns-in-Refused : goal.returns-in-Refused

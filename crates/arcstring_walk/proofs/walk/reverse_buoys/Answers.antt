@@ -1,10 +1,8 @@
 -- `reverse_buoys` writes the numbers last to first: after i turns the last i are written. Assumes nothing.
-use mathlib.Core.Path.{◌≡◌, refl}
-use Prim.Native.Nat.{◌-◌, ◌≤◌}
+use mathlib.Core.Path.{refl}
+use Prim.Native.Nat.{◌-◌}
 use native.Mathlib.Omega.{arith}
-use mathlib.Core.List.{reverse}
-use lib.ListN.{length, drop, length-set}
-use Rattle.arcstring.specs.Splice.{splice}
+use lib.ListN.{length-set}
 use Rattle.arcstring.proofs.Moves.{backwards_none, backwards_step, backwards_all}
 use Rattle.arcstring_walk.proofs.walk.reverse_buoys.Goals as goal
 

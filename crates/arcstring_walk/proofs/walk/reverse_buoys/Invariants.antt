@@ -1,11 +1,9 @@
 -- `reverse_buoys` writes the numbers last to first: after i turns the last i are written. Assumes nothing.
-use mathlib.Core.Path.{◌≡◌, refl}
+use mathlib.Core.Path.{◌≡◌}
 use Prim.Native.Nat.{◌-◌, ◌≤◌}
-use native.Mathlib.Omega.{arith}
 use mathlib.Core.List.{reverse}
-use lib.ListN.{length, drop, length-set}
+use lib.ListN.{length, drop}
 use Rattle.arcstring.specs.Splice.{splice}
-use Rattle.arcstring.proofs.Moves.{backwards_none, backwards_step, backwards_all}
 use Rattle.arcstring_walk.proofs.walk.reverse_buoys.Given as goal
 
 abbrev pub invariant-loop-i : goal.invariant-loop-i

@@ -1,12 +1,10 @@
 -- `reverse_vertices` writes the vertices last to first: after i turns the last i are written. Assumes nothing.
-use mathlib.Core.Path.{◌≡◌, refl, ◌∙◌}
+use mathlib.Core.Path.{◌≡◌}
 use mathlib.Core.List.{reverse}
 use Prim.Native.Nat.{◌≤◌, ◌-◌}
-use native.Mathlib.Omega.{arith}
 use lib.ListN.{length, drop}
 use Rattle.arcstring.specs.Points.{points, flat}
 use Rattle.arcstring.specs.Splice.{splice}
-use Rattle.arcstring.proofs.Moves.{reverse_none, reverse-step, reverse_all}
 use Rattle.arcstring_walk.proofs.walk.reverse_vertices.Given as goal
 
 abbrev pub invariant-loop-i : goal.invariant-loop-i

@@ -1,6 +1,5 @@
 -- `rotate_vertices` copies two runs, one after the other. Assumes nothing.
 use Rattle.arcstring.proofs.Moves.{rotate_all}
-use borrow.Author.Rules.{rules}
 use Rattle.arcstring_walk.proofs.walk.rotate_vertices.Goals as goal
 
 pub returns : goal.returns

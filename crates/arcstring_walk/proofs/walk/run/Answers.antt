@@ -1,7 +1,6 @@
 -- `run` gives the part of the list between two positions, and the empty part where there is none. Assumes nothing.
 use borrow.Author.Tests.{eq-eqb, ne_eqb, lt-leb, le-leb}
 use Rattle.arcstring_walk.specs.Walk.{run_of}
-use borrow.Author.Rules.{rules}
 use Rattle.arcstring_walk.proofs.walk.run.Goals as goal
 
 pub returns-then-n-ne0 : goal.returns-then-n-ne0

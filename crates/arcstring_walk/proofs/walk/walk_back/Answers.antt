@@ -4,7 +4,6 @@ use native.Mathlib.Omega.{arith}
 use lib.ListN.{length}
 use Rattle.arcstring.proofs.Written.{both_fit}
 use Rattle.arcstring_walk.proofs.Walks.{accepted_triples, accepted_buoys, back_refused, back_short, back_written}
-use borrow.Author.Rules.{rules}
 use Rattle.arcstring_walk.proofs.walk.walk_back.Goals as goal
 
 pub returns-in-Refused : goal.returns-in-Refused

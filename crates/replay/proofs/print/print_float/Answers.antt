@@ -3,7 +3,6 @@ use mathlib.Core.Path.{◌≡◌, subst}
 use mathlib.Core.Bool.{false, not}
 use lib.Dec.{T}
 use lib.Ieee.{Float, nan, inf, fin, ne, eq, is_nan}
-use borrow.Author.Rules.{rules}
 use Rattle.replay.proofs.print.print_float.Goals as goal
 
 -- a float that does not differ from itself is no NaN

@@ -1,7 +1,6 @@
 -- `print_numbers` reads within the list. Assumes nothing.
 use Prim.Native.Nat.{◌≤◌, ◌-◌}
 use lib.ListN.{length}
-use borrow.Author.Rules.{rules}
 use Rattle.replay.proofs.print.print_numbers.Given as goal
 
 abbrev pub invariant-loop-i : goal.invariant-loop-i

@@ -1,6 +1,5 @@
 -- `spell` writes within the text: its index goes down from 16. Assumes nothing.
 use Prim.Native.Nat.{◌≤◌}
-use borrow.Author.Rules.{rules}
 use Rattle.replay.proofs.print.spell.Given as goal
 
 abbrev pub invariant-loop-i : goal.invariant-loop-i

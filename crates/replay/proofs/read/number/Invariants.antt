@@ -1,6 +1,5 @@
 -- `number` reads 16 digits: each leaves the word below 2^64. Assumes nothing.
 use Prim.Native.Nat.{◌≤◌, ◌-◌}
-use borrow.Author.Rules.{rules}
 use Rattle.replay.proofs.read.number.Given as goal
 
 abbrev pub invariant-loop-i : goal.invariant-loop-i

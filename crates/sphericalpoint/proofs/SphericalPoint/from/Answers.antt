@@ -1,7 +1,6 @@
 -- `SphericalPoint::from` meets its contract, whichever way its test goes. Assumes nothing.
 use Rattle.sphericalpoint.proofs.Tolerances.{unit_bits, one_bits}
 use Rattle.sphericalpoint.proofs.Cases.{unit_stays, other_normalized}
-use borrow.Author.Rules.{rules}
 use Rattle.sphericalpoint.proofs.SphericalPoint.from.Goals as goal
 
 pub returns-then-xyz_length : goal.returns-then-xyz_length

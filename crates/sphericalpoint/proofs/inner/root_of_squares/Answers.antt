@@ -1,6 +1,5 @@
 -- `inner::root_of_squares` meets its contract by what the root ensures. Assumes nothing.
 use Rattle.sphericalpoint.specs.Vector.{xyz_mul, xyz_sum, xyz_length}
-use borrow.Author.Rules.{rules}
 use Rattle.sphericalpoint.proofs.inner.root_of_squares.Goals as goal
 
 pub returns : goal.returns

@@ -1,7 +1,6 @@
 -- `inner::between_ends` meets its contract by what its calls ensure. Assumes nothing.
 use Rattle.sphericalpoint_coplanar.specs.Coplanar.{between_ends}
 use Rattle.sphericalpoint.proofs.Tolerances.{coplanar_bits, one_bits}
-use borrow.Author.Rules.{rules}
 use Rattle.sphericalpoint_coplanar.proofs.inner.between_ends.Goals as goal
 
 pub returns : goal.returns

@@ -1,6 +1,5 @@
 -- `inner::coplanar_of` meets its contract, by the two parts of its definition. Assumes nothing.
 use mathlib.Core.Path.{◌∙◌}
-use borrow.Author.Rules.{rules}
 use Rattle.sphericalpoint_coplanar.proofs.Cases.{ends_equal, ends_differ}
 use Rattle.sphericalpoint_coplanar.proofs.inner.coplanar_of.Goals as goal
 

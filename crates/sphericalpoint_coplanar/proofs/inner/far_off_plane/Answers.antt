@@ -2,7 +2,6 @@
 use mathlib.Core.Path.{◌≡◌, ap, ◌∙◌, subst}
 use mathlib.Core.Bool.{true, ◌&&◌}
 use lib.Ieee.{Float, binary64, of_bits, le}
-use borrow.Author.Rules.{rules}
 use Rattle.ieee754.specs.Size.{abs}
 use Rattle.ieee754.specs.Value.{value}
 use Rattle.sphericalpoint_coplanar.proofs.FarOff.{not_in_plane}

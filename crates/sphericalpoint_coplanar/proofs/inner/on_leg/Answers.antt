@@ -1,8 +1,6 @@
 -- `inner::on_leg` meets its contract, whichever way its tests go. Assumes nothing.
 use mathlib.Core.Path.{refl, sym, ap, ◌∙◌}
 use lib.Ieee.{lt}
-use borrow.Author.Rules.{rules}
-use borrow.Author.Tests.{not-true}
 use Rattle.sphericalpoint.proofs.Tolerances.{coplanar_bits}
 use Rattle.sphericalpoint_coplanar.proofs.Cases.{far_off, outside, no_plane, in_plane}
 use Rattle.sphericalpoint_coplanar.proofs.inner.on_leg.Goals as goal

@@ -4,7 +4,6 @@ use Prim.Native.Nat.{ℕ}
 use Rattle.arcstring.specs.Points.{point_at}
 use Rattle.arcstring.specs.Leg.{leg}
 use Rattle.arcstring.proofs.Legs.{leg_after}
-use borrow.Author.Rules.{rules}
 use Rattle.arcstring.proofs.inner.leg.leg_at.Goals as goal
 
 pub returns : goal.returns

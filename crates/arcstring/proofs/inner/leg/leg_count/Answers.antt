@@ -1,7 +1,6 @@
 -- As many legs as vertices, or one fewer. Assumes nothing.
 use native.Mathlib.Omega.{arith}
 use Rattle.arcstring.proofs.Legs.{closed_count, open_count}
-use borrow.Author.Rules.{rules}
 use Rattle.arcstring.proofs.inner.leg.leg_count.Goals as goal
 
 pub returns-then-closed : goal.returns-then-closed

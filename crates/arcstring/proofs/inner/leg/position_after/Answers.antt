@@ -1,7 +1,6 @@
 -- The position after another, around the vertices. Assumes nothing.
 use native.Mathlib.Omega.{arith}
 use Rattle.arcstring.proofs.Legs.{after_next, after_last}
-use borrow.Author.Rules.{rules}
 use Rattle.arcstring.proofs.inner.leg.position_after.Goals as goal
 
 pub returns-then-k-n : goal.returns-then-k-n

@@ -1,9 +1,8 @@
 -- `copy_buoys` copies a run of numbers: after i turns the first i of the run are written. Assumes nothing.
 use mathlib.Core.Path.{◌≡◌, refl, sym, ap, ◌∙◌}
-use Prim.Native.Nat.{ℕ, ◌-◌, ◌≤◌}
+use Prim.Native.Nat.{ℕ, ◌-◌}
 use native.Mathlib.Omega.{arith}
-use borrow.Author.Rules.{rules}
-use lib.ListN.{length, take, drop, length-set}
+use lib.ListN.{take, drop, length-set}
 use Rattle.arcstring.specs.Splice.{splice}
 use Rattle.arcstring.proofs.Splices.{splice_nothing}
 use Rattle.arcstring.proofs.Moves.{run_step}

@@ -1,12 +1,8 @@
 -- `copy_buoys` copies a run of numbers: after i turns the first i of the run are written. Assumes nothing.
-use mathlib.Core.Path.{◌≡◌, refl, sym, ap, ◌∙◌}
-use Prim.Native.Nat.{ℕ, ◌-◌, ◌≤◌}
-use native.Mathlib.Omega.{arith}
-use borrow.Author.Rules.{rules}
-use lib.ListN.{length, take, drop, length-set}
+use mathlib.Core.Path.{◌≡◌}
+use Prim.Native.Nat.{◌-◌, ◌≤◌}
+use lib.ListN.{length, take, drop}
 use Rattle.arcstring.specs.Splice.{splice}
-use Rattle.arcstring.proofs.Splices.{splice_nothing}
-use Rattle.arcstring.proofs.Moves.{run_step}
 use Rattle.arcstring.proofs.inner.vertex.copy_buoys.Given as goal
 
 abbrev pub invariant-loop-i : goal.invariant-loop-i

@@ -1,9 +1,8 @@
 -- `copy_numbers` copies the first numbers: after i turns the first i are written. Assumes nothing.
-use mathlib.Core.Path.{◌≡◌, refl, sym}
-use Prim.Native.Nat.{◌-◌, ◌≤◌}
+use mathlib.Core.Path.{refl, sym}
+use Prim.Native.Nat.{◌-◌}
 use native.Mathlib.Omega.{arith}
-use lib.ListN.{length, take, length-set}
-use Rattle.arcstring.specs.Splice.{splice}
+use lib.ListN.{length-set}
 use Rattle.arcstring.proofs.Splices.{splice_nothing}
 use Rattle.arcstring.proofs.Moves.{first_step, first_all}
 use Rattle.arcstring.proofs.inner.vertex.copy_numbers.Goals as goal

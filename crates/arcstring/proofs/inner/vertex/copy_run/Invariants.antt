@@ -1,11 +1,8 @@
 -- `copy_run` copies a run of vertices: after i turns the first i of the run are written. Assumes nothing.
-use mathlib.Core.Path.{◌≡◌, refl, sym, ◌∙◌}
+use mathlib.Core.Path.{◌≡◌}
 use Prim.Native.Nat.{◌≤◌, ◌-◌, ◌*◌}
-use native.Mathlib.Omega.{arith}
 use lib.ListN.{length, take, drop}
 use Rattle.arcstring.specs.Splice.{splice}
-use Rattle.arcstring.proofs.Splices.{splice_nothing}
-use Rattle.arcstring.proofs.Moves.{copy_step, copy_all}
 use Rattle.arcstring.proofs.inner.vertex.copy_run.Given as goal
 
 abbrev pub invariant-loop-i : goal.invariant-loop-i

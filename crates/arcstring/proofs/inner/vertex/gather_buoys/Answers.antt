@@ -1,10 +1,8 @@
 -- `gather_buoys` writes the numbers at the positions: after i turns those of the first i. Assumes nothing.
-use mathlib.Core.Path.{◌≡◌, refl, sym}
-use Prim.Native.Nat.{◌-◌, ◌≤◌}
+use mathlib.Core.Path.{refl, sym}
+use Prim.Native.Nat.{◌-◌}
 use native.Mathlib.Omega.{arith}
-use mathlib.Core.List.{map}
-use lib.ListN.{length, take, length-set}
-use Rattle.arcstring.specs.Splice.{splice}
+use lib.ListN.{length-set}
 use Rattle.arcstring.specs.Positions.{buoy_at}
 use Rattle.arcstring.proofs.Splices.{splice_nothing}
 use Rattle.arcstring.proofs.Moves.{gather_step, gather_all}

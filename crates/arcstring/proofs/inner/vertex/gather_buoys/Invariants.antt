@@ -1,13 +1,10 @@
 -- `gather_buoys` writes the numbers at the positions: after i turns those of the first i. Assumes nothing.
-use mathlib.Core.Path.{◌≡◌, refl, sym}
+use mathlib.Core.Path.{◌≡◌}
 use Prim.Native.Nat.{◌-◌, ◌≤◌}
-use native.Mathlib.Omega.{arith}
 use mathlib.Core.List.{map}
-use lib.ListN.{length, take, length-set}
+use lib.ListN.{length, take}
 use Rattle.arcstring.specs.Splice.{splice}
 use Rattle.arcstring.specs.Positions.{buoy_at}
-use Rattle.arcstring.proofs.Splices.{splice_nothing}
-use Rattle.arcstring.proofs.Moves.{gather_step, gather_all}
 use Rattle.arcstring.proofs.inner.vertex.gather_buoys.Given as goal
 
 abbrev pub invariant-loop-i : goal.invariant-loop-i

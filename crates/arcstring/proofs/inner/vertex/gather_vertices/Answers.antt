@@ -1,11 +1,8 @@
 -- `gather_vertices` writes the vertices at the positions: after i turns those of the first i. Assumes nothing.
-use mathlib.Core.Path.{◌≡◌, refl, sym, ◌∙◌}
-use Prim.Native.Nat.{◌-◌, ◌≤◌}
+use mathlib.Core.Path.{refl, sym, ◌∙◌}
+use Prim.Native.Nat.{◌-◌}
 use native.Mathlib.Omega.{arith}
-use mathlib.Core.List.{map}
-use lib.ListN.{length, take}
-use Rattle.arcstring.specs.Points.{point_at, flat}
-use Rattle.arcstring.specs.Splice.{splice}
+use Rattle.arcstring.specs.Points.{point_at}
 use Rattle.arcstring.proofs.Splices.{splice_nothing}
 use Rattle.arcstring.proofs.Moves.{gather_vertex, gather_vertices}
 use Rattle.arcstring.proofs.inner.vertex.gather_vertices.Goals as goal

@@ -2,7 +2,6 @@
 use mathlib.Core.Path.{ap}
 use Rattle.sphericalpoint.specs.declared.SphericalPoint.{SphericalPoint}
 use Rattle.arcstring.specs.Positions.{buoy_at}
-use borrow.Author.Rules.{rules}
 use Rattle.arcstring.proofs.inner.vertex.numbered_at.Goals as goal
 
 pub returns : goal.returns

@@ -1,11 +1,9 @@
 -- `positions` writes the positions from 0 on: after i turns the first i. Assumes nothing.
-use mathlib.Core.Path.{◌≡◌, refl, sym}
-use Prim.Native.Nat.{◌-◌, ◌≤◌}
+use mathlib.Core.Path.{refl, sym}
+use Prim.Native.Nat.{◌-◌}
 use native.Mathlib.Omega.{arith}
-use lib.ListN.{length, length-set}
-use Rattle.arcstring.specs.Splice.{splice}
+use lib.ListN.{length-set}
 use Rattle.arcstring.proofs.Splices.{splice_nothing}
-use Rattle.arcstring.specs.Positions.{positions_from}
 use Rattle.arcstring.proofs.Moves.{position-step, positions_all}
 use Rattle.arcstring.proofs.inner.vertex.positions.Goals as goal
 

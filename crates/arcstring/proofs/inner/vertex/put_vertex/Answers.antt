@@ -2,7 +2,6 @@
 use native.Mathlib.Omega.{arith}
 use lib.ListN.{length-set}
 use Rattle.arcstring.proofs.Splices.{sets_splice}
-use borrow.Author.Rules.{rules}
 use Rattle.arcstring.proofs.inner.vertex.put_vertex.Goals as goal
 
 pub bounds-out-at-2 : goal.bounds-out-at-2

@@ -1,7 +1,6 @@
 -- The source's test of leg k by its two vertices: it goes on to vertex k + 1, and the last one to vertex 0. Assumes nothing.
 use native.Mathlib.Omega.{arith}
 use Rattle.arcstring_along.proofs.AlongLegs.{along-next, along_last}
-use borrow.Author.Rules.{rules}
 use Rattle.arcstring_along.proofs.inner.along.along_leg_at.Goals as goal
 use Rattle.arcstring_along.proofs.inner.along.along_leg_at.Goals.{then-k-n, else-k-n}
 

@@ -1,10 +1,7 @@
 -- The walk over the legs. The loop's invariant: the point is along one of the legs from k on exactly if it is along one of all. Assumes nothing.
-use mathlib.Core.Path.{◌≡◌, refl, ◌∙◌}
+use mathlib.Core.Path.{refl, ◌∙◌}
 use Prim.Native.Nat.{◌-◌}
-use Rattle.arcstring.specs.Leg.{legs_from}
-use Rattle.arcstring_along.specs.OnString.{along_some_leg}
 use Rattle.arcstring_along.proofs.AlongLegs.{along_here, along_later, along_none}
-use borrow.Author.Rules.{rules}
 use Rattle.arcstring_along.proofs.inner.along.along_some_leg.Goals as goal
 
 pub loop-k-init : goal.loop-k-init

@@ -1,12 +1,10 @@
 -- The walk over a near list. The loop's invariant: the first near entry from k on is the first one of all. Assumes nothing.
-use mathlib.Core.Path.{◌≡◌, ◌∙◌}
+use mathlib.Core.Path.{◌≡◌}
 use Prim.Native.Nat.{◌-◌}
 use lib.ListN.{drop}
 use Rattle.arcstring.specs.Points.{points}
 use Rattle.arcstring_along.specs.OnString.{first_near}
-use Rattle.arcstring_along.proofs.FirstFound.{from, from_start}
-use Rattle.arcstring_along.proofs.NearEntries.{near_here, near_later, near_none}
-use borrow.Author.Rules.{rules}
+use Rattle.arcstring_along.proofs.FirstFound.{from}
 use Rattle.arcstring_along.proofs.inner.along.first_near.Given as goal
 
 abbrev pub invariant-loop-k : goal.invariant-loop-k

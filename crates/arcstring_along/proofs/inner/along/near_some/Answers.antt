@@ -1,6 +1,5 @@
 -- Whether the walk over a near list finds an entry. Assumes nothing.
 use Rattle.arcstring_along.proofs.NearEntries.{found_near, nothing_near}
-use borrow.Author.Rules.{rules}
 use Rattle.arcstring_along.proofs.inner.along.near_some.Goals as goal
 
 pub returns-in-At : goal.returns-in-At

@@ -1,12 +1,9 @@
 -- `check::all_in_range` meets its contract: what was found so far, with what is left of the list, decides for the whole. Assumes nothing.
-use mathlib.Core.Path.{◌≡◌, refl}
+use mathlib.Core.Path.{◌≡◌}
 use mathlib.Core.Bool.{◌&&◌}
 use Prim.Native.Nat.{◌≤◌, ◌-◌}
-use native.Mathlib.Omega.{arith}
 use lib.ListN.{length, drop}
-use borrow.Author.Rules.{rules}
 use Rattle.arcstring_check.specs.Check.{all_in_range}
-use Rattle.arcstring_check.proofs.Checks.{range_next, range_end}
 use Rattle.arcstring_check.proofs.inner.checks.all_in_range.Given as goal
 
 abbrev pub invariant-loop-i : goal.invariant-loop-i

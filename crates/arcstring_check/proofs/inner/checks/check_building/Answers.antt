@@ -1,7 +1,6 @@
 -- `check::check_building` meets its contract, whichever way its tests go. Assumes nothing.
 use mathlib.Core.Path.{◌∙◌}
 use Rattle.arcstring_check.proofs.Checks.{building_not_as_many, building_too_few, building_enough}
-use borrow.Author.Rules.{rules}
 use Rattle.arcstring_check.proofs.inner.checks.check_building.Goals as goal
 
 pub returns-then-buoys-list : goal.returns-then-buoys-list

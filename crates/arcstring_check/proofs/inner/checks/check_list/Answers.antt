@@ -3,7 +3,6 @@ use mathlib.Core.Path.{sym, ap, ◌∙◌}
 use mathlib.Core.Bool.{true, false}
 use Rattle.arcstring_check.specs.Check.{check_number}
 use Rattle.arcstring_check.proofs.Checks.{no_triples, few_refused, too_many, by_range}
-use borrow.Author.Rules.{rules}
 use Rattle.arcstring_check.proofs.inner.checks.check_list.Goals as goal
 
 pub returns-then-list-ne0 : goal.returns-then-list-ne0

@@ -1,7 +1,6 @@
 -- `check::check_point` meets its contract, whichever way its test goes. Assumes nothing.
 use mathlib.Core.Bool.{true, false}
 use Rattle.arcstring_check.proofs.Checks.{point_by_range}
-use borrow.Author.Rules.{rules}
 use Rattle.arcstring_check.proofs.inner.checks.check_point.Goals as goal
 
 pub returns-then-in_range : goal.returns-then-in_range

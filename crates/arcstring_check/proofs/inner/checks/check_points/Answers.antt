@@ -1,7 +1,6 @@
 -- `check::check_points` meets its contract, whichever way its test goes. Assumes nothing.
 use mathlib.Core.Path.{◌∙◌}
 use Rattle.arcstring_check.proofs.Checks.{points-not_as_many, points_as_many}
-use borrow.Author.Rules.{rules}
 use Rattle.arcstring_check.proofs.inner.checks.check_points.Goals as goal
 
 pub returns-then-buoys-list : goal.returns-then-buoys-list

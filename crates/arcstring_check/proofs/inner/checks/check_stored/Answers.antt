@@ -1,7 +1,6 @@
 -- `check::check_stored` meets its contract, whichever way its test goes. Assumes nothing.
 use mathlib.Core.Path.{◌∙◌}
 use Rattle.arcstring_check.proofs.Checks.{stored_empty, stored-not_empty}
-use borrow.Author.Rules.{rules}
 use Rattle.arcstring_check.proofs.inner.checks.check_stored.Goals as goal
 
 pub returns-then-list-eq0 : goal.returns-then-list-eq0

@@ -1,7 +1,6 @@
 -- `check::check_string` meets its contract, whichever way its tests go. Assumes nothing.
 use mathlib.Core.Path.{◌∙◌}
 use Rattle.arcstring_check.proofs.Checks.{string_empty, string-not_as_many, string_as_many}
-use borrow.Author.Rules.{rules}
 use Rattle.arcstring_check.proofs.inner.checks.check_string.Goals as goal
 
 pub returns-then-v-eq0 : goal.returns-then-v-eq0

@@ -1,6 +1,5 @@
 -- `check::first_of` meets its contract. Assumes nothing.
 use Rattle.arcstring_check.proofs.Answers.{first_refused}
-use borrow.Author.Rules.{rules}
 use Rattle.arcstring_check.proofs.inner.checks.first_of.Goals as goal
 
 pub returns-in-Refused : goal.returns-in-Refused

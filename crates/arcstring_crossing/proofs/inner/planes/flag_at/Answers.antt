@@ -3,7 +3,6 @@ use native.Mathlib.Omega.{arith}
 use mathlib.Core.Path.{◌∙◌}
 use Rattle.arcstring_pair.proofs.Aparts.{shows_apart_lem}
 use Rattle.arcstring_crossing.proofs.KeptPlanes.{read_class}
-use borrow.Author.Rules.{rules}
 use Rattle.arcstring_crossing.proofs.inner.planes.flag_at.Goals as goal
 
 pub returns-then-shows_apart : goal.returns-then-shows_apart

@@ -1,12 +1,9 @@
 -- The flags of a leg's pairs, one after the other. The loop's invariant: they are right up to k, and where none is set all pairs up to k are apart. Assumes
 -- nothing.
-use mathlib.Core.Path.{◌≡◌, refl}
+use mathlib.Core.Path.{◌≡◌}
 use Prim.Native.Nat.{◌-◌, ◌≤◌}
-use native.Mathlib.Omega.{arith}
-use borrow.Author.Rules.{rules}
 use lib.ListN.{length}
 use Rattle.arcstring_crossing.specs.Plane.{AllApart, FlagsOf}
-use Rattle.arcstring_crossing.proofs.KeptPlanes.{aparts_next, aparts_none, aparts_to, flags_next, flags_none, flags_to}
 use Rattle.arcstring_crossing.proofs.inner.planes.flag_row.Given as goal
 
 abbrev pub invariant-loop-k : goal.invariant-loop-k

@@ -1,12 +1,9 @@
 -- The positions of the flags that are set, one after the other. The loop's invariant: those written, with those still to be found, are all. Assumes nothing.
-use mathlib.Core.Path.{◌≡◌, refl}
+use mathlib.Core.Path.{◌≡◌}
 use mathlib.Core.List.{◌++◌}
 use Prim.Native.Nat.{ℕ, ◌+◌, ◌-◌, ◌≤◌, ◌<◌}
-use native.Mathlib.Omega.{arith}
 use lib.ListN.{length, get_or, take}
 use Rattle.arcstring_crossing.specs.Plane.{flagged_from}
-use Rattle.arcstring_crossing.proofs.Flagged.{gathered_on, gathered_below, gathered_place, gathered_all}
-use borrow.Author.Rules.{rules}
 use Rattle.arcstring_crossing.proofs.inner.planes.gather.Given as goal
 
 abbrev pub invariant-loop-k : goal.invariant-loop-k

@@ -1,10 +1,9 @@
 -- The planes of a string's legs are written one after the other. The loop's invariant: those before k are. Assumes nothing.
-use mathlib.Core.Path.{◌≡◌, ap, ◌∙◌}
-use Prim.Native.Nat.{ℕ, ◌-◌, ◌≤◌, ◌<◌}
+use mathlib.Core.Path.{ap, ◌∙◌}
+use Prim.Native.Nat.{◌-◌}
 use native.Mathlib.Omega.{arith}
 use borrow.Author.Rules.{rules}
-use lib.ListN.{length}
-use Rattle.arcstring_crossing.specs.Plane.{plane_of, PlaneAt}
+use Rattle.arcstring_crossing.specs.Plane.{plane_of}
 use Rattle.arcstring.specs.Leg.{leg_at}
 use Rattle.arcstring_crossing.proofs.KeptPlanes.{planes_next}
 use Rattle.arcstring_crossing.proofs.inner.planes.keep_planes.Goals as goal

@@ -1,6 +1,5 @@
 -- One place on where a flag is set. Assumes nothing.
 use borrow.Author.Tests.{eq-eqb, ne_eqb}
-use borrow.Author.Rules.{rules}
 use Rattle.arcstring_crossing.proofs.inner.planes.next_place.Goals as goal
 
 pub returns-then-flag-eq0 : goal.returns-then-flag-eq0

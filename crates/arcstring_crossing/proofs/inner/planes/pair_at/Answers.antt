@@ -3,7 +3,6 @@ use mathlib.Core.Path.{ap, ◌∙◌}
 use Rattle.arcstring.specs.Leg.{Leg, leg_of}
 use Rattle.arcstring_pair.specs.Pair.{class_at}
 use Rattle.arcstring_crossing.proofs.KeptPlanes.{read_class}
-use borrow.Author.Rules.{rules}
 use Rattle.arcstring_crossing.proofs.inner.planes.pair_at.Goals as goal
 
 pub returns : goal.returns

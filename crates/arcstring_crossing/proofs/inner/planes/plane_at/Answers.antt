@@ -1,6 +1,5 @@
 -- A plane is read as three vectors of a list. Assumes nothing.
 use mathlib.Core.Path.{sym}
-use borrow.Author.Rules.{rules}
 use Rattle.arcstring_crossing.proofs.inner.planes.plane_at.Goals as goal
 
 pub returns : goal.returns

@@ -1,6 +1,5 @@
 -- A plane is written as three vectors of a list. Assumes nothing.
 use Rattle.arcstring_crossing.proofs.KeptPlanes.{plane_written, plane_stays}
-use borrow.Author.Rules.{rules}
 use Rattle.arcstring_crossing.proofs.inner.planes.put_plane.Goals as goal
 
 pub returns : goal.returns

@@ -8,7 +8,6 @@ use lib.Dec.{lit≤}
 use Rattle.arcstring_crossing.specs.Plane.{put_run}
 use Rattle.arcstring_crossing.proofs.KeptPlanes.{room_in_run}
 use Rattle.arcstring_crossing.proofs.Bounds.{run_below, run_fits, in_run_fits, in_run_bytes, step_up}
-use borrow.Author.Rules.{rules}
 use Rattle.arcstring_crossing.proofs.inner.planes.put_run.Goals as goal
 
 pub overflow_mul-planes : goal.overflow_mul-planes
@@ -35,11 +34,11 @@ offset_bounds-planes-j-2 c = in_run_bytes _ _ _ (run_below _ 1 c.requires.3 (lit
 pub bounds-planes-j-2 : goal.bounds-planes-j-2
 bounds-planes-j-2 c =
     omega (
-  arith,
-  room_in_run c.args.planes.now c.args.width c.args.j c.args.k c.args.p c.requires.1 c.requires.0 1
-      (omega arith),
-  length-set c.args.planes.now (c.args.j * c.args.width + c.args.k) c.args.p.x,
-)
+      arith,
+      room_in_run c.args.planes.now c.args.width c.args.j c.args.k c.args.p c.requires.1 c.requires.0 1
+          (omega arith),
+      length-set c.args.planes.now (c.args.j * c.args.width + c.args.k) c.args.p.x,
+    )
 
 pub overflow_add-planes-4 : goal.overflow_add-planes-4
 overflow_add-planes-4 c = step_up _ 2 c.requires.3 (lit≤ tt)
@@ -56,13 +55,13 @@ offset_bounds-planes-j-3 c = in_run_bytes _ _ _ (run_below _ 2 c.requires.3 (lit
 pub bounds-planes-j-3 : goal.bounds-planes-j-3
 bounds-planes-j-3 c =
     omega (
-  arith,
-  room_in_run c.args.planes.now c.args.width c.args.j c.args.k c.args.p c.requires.1 c.requires.0 2
-      (omega arith),
-  length-set c.args.planes.now (c.args.j * c.args.width + c.args.k) c.args.p.x,
-  length-set
-      (set c.args.planes.now (c.args.j * c.args.width + c.args.k) c.args.p.x) ((c.args.j + 1) * c.args.width + c.args.k) c.args.p.y,
-)
+      arith,
+      room_in_run c.args.planes.now c.args.width c.args.j c.args.k c.args.p c.requires.1 c.requires.0 2
+          (omega arith),
+      length-set c.args.planes.now (c.args.j * c.args.width + c.args.k) c.args.p.x,
+      length-set
+          (set c.args.planes.now (c.args.j * c.args.width + c.args.k) c.args.p.x) ((c.args.j + 1) * c.args.width + c.args.k) c.args.p.y,
+    )
 
 pub shape_of-planes : goal.shape_of-planes
 shape_of-planes c = simp length-set

@@ -4,7 +4,6 @@ use native.Mathlib.Nat.{le_trans}
 use lib.Dec.{lit≤}
 use Rattle.arcstring_crossing.specs.Plane.{run_at}
 use Rattle.arcstring_crossing.proofs.Bounds.{run_below, run_fits, in_run_fits, in_run_bytes, step_up}
-use borrow.Author.Rules.{rules}
 use Rattle.arcstring_crossing.proofs.inner.planes.run_at.Goals as goal
 
 pub overflow_mul-result : goal.overflow_mul-result

@@ -1,7 +1,6 @@
 -- `cut_at_points` cuts at each of the points in turn: what is left to do from the pieces that stand there gives the whole answer. Assumes nothing.
-use mathlib.Core.Path.{◌≡◌, refl, sym, ◌∙◌}
+use mathlib.Core.Path.{◌≡◌}
 use Prim.Native.Nat.{◌-◌, ◌≤◌, ◌*◌}
-use native.Mathlib.Omega.{arith}
 use lib.ListN.{length, drop}
 use Rattle.arcstring.specs.Points.{numbered, place_of, points}
 use Rattle.arcstring_check.specs.Check.{most_points}
@@ -9,9 +8,6 @@ use Rattle.arcstring_build.specs.Build.{built_numbered}
 use Rattle.arcstring_insert.specs.Steps.{for_each}
 use Rattle.arcstring_piece.specs.Cut.{cut_string}
 use Rattle.arcstring_piece.specs.Pieces.{first_pieces, Stands}
-use Rattle.arcstring_cut.proofs.inner.cut_place.Rooms.{next_less, next-within}
-use Rattle.arcstring_piece.proofs.inner.replace.CutLists.{same_rooms}
-use Rattle.arcstring_cut.proofs.inner.cut_place.CutPlaces.{counted_stand, points_end, points-step, points_stop}
 use Rattle.arcstring_cut.proofs.inner.cut_place.cut_at_points.Given as goal
 
 abbrev pub invariant-loop-i : goal.invariant-loop-i

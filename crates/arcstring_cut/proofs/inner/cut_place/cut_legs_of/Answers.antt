@@ -2,13 +2,11 @@
 use mathlib.Core.Path.{◌≡◌, refl, sym, ap, ◌∙◌}
 use Prim.Native.Nat.{◌-◌}
 use native.Mathlib.Omega.{arith}
-use lib.ListN.{length, take}
-use borrow.Author.Tests.{not-true, not-false}
-use Rattle.arcstring_insert.specs.Steps.{for_positions}
-use Rattle.arcstring_piece.specs.Pieces.{first_pieces, sum}
+use lib.ListN.{length}
+use Rattle.arcstring_piece.specs.Pieces.{sum}
 use Rattle.arcstring_cut.proofs.inner.cut_place.Rooms.{next_less}
 use Rattle.arcstring_piece.proofs.inner.replace.CutLists.{same_rooms}
-use Rattle.arcstring_cut.proofs.inner.cut_place.CutWalks.{Walks, walk_start, walk_end, leg_step, leg_off, leg_stops, leg_goes_on}
+use Rattle.arcstring_cut.proofs.inner.cut_place.CutWalks.{walk_start, walk_end, leg_step, leg_off, leg_stops, leg_goes_on}
 use Rattle.arcstring_cut.proofs.inner.cut_place.cut_legs_of.Goals as goal
 
 pub loop-i-init : goal.loop-i-init

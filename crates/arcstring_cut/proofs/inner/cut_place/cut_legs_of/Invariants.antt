@@ -1,14 +1,10 @@
 -- `cut_legs_of` walks over the legs of the copy: a leg that the point is not along changes nothing, and any other is a cut. Assumes nothing.
-use mathlib.Core.Path.{◌≡◌, refl, sym, ap, ◌∙◌}
+use mathlib.Core.Path.{◌≡◌}
 use Prim.Native.Nat.{◌-◌}
-use native.Mathlib.Omega.{arith}
-use lib.ListN.{length, take}
-use borrow.Author.Tests.{not-true, not-false}
+use lib.ListN.{take}
 use Rattle.arcstring_insert.specs.Steps.{for_positions}
-use Rattle.arcstring_piece.specs.Pieces.{first_pieces, sum}
-use Rattle.arcstring_cut.proofs.inner.cut_place.Rooms.{next_less}
-use Rattle.arcstring_piece.proofs.inner.replace.CutLists.{same_rooms}
-use Rattle.arcstring_cut.proofs.inner.cut_place.CutWalks.{Walks, walk_start, walk_end, leg_step, leg_off, leg_stops, leg_goes_on}
+use Rattle.arcstring_piece.specs.Pieces.{first_pieces}
+use Rattle.arcstring_cut.proofs.inner.cut_place.CutWalks.{Walks, leg_step}
 use Rattle.arcstring_cut.proofs.inner.cut_place.cut_legs_of.Given as goal
 
 abbrev pub invariant-loop-i : goal.invariant-loop-i

@@ -1,19 +1,14 @@
 -- `cut_string` walks over the places that there are before the point; each starts where the one before it ends. Assumes nothing.
-use mathlib.Core.Path.{◌≡◌, refl, sym, ◌∙◌}
-use Prim.Native.Nat.{◌+◌, ◌-◌, ◌*◌, ◌≤◌}
-use native.Mathlib.Omega.{arith}
-use lib.ListN.{length, get_or, take}
+use mathlib.Core.Path.{◌≡◌}
+use Prim.Native.Nat.{◌-◌, ◌*◌, ◌≤◌}
+use lib.ListN.{length, take}
 use Rattle.arcstring_check.specs.Check.{most_points}
 use Rattle.arcstring.specs.Points.{place_of}
 use Rattle.arcstring_build.specs.Build.{built_numbered}
 use Rattle.arcstring_insert.specs.Steps.{for_positions}
 use Rattle.arcstring_piece.specs.Cut.{cut_place}
 use Rattle.arcstring_piece.specs.Pieces.{first_pieces, sum}
-use Rattle.arcstring_cut.proofs.inner.cut_place.Rooms.{next_less, next-within, place_fits, place_below, points_fit}
-use Rattle.arcstring_piece.proofs.inner.replace.Rooms.{next_fits}
-use Rattle.arcstring_piece.proofs.inner.replace.CutLists.{same_rooms}
-use Rattle.arcstring_cut.proofs.inner.cut_place.CutWalks.{Walks, walk_start, walk_end, walk_stops}
-use Rattle.arcstring_cut.proofs.inner.cut_place.CutPlaces.{place_step, string_walk}
+use Rattle.arcstring_cut.proofs.inner.cut_place.CutWalks.{Walks}
 use Rattle.arcstring_cut.proofs.inner.cut_place.cut_string.Given as goal
 
 abbrev pub invariant-loop-k : goal.invariant-loop-k

@@ -1,6 +1,5 @@
 -- `between_ends_lem` meets its contract by what its calls ensure. Assumes nothing.
 use Rattle.arcstring_mark.proofs.Cases.{ends_tested}
-use borrow.Author.Rules.{rules}
 use Rattle.arcstring_mark.proofs.inner.holds.between_ends.Goals as goal
 
 pub returns : goal.returns

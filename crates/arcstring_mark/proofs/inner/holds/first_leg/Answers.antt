@@ -1,11 +1,8 @@
 -- The walk over the legs. The loop's invariant: the first leg from k on that holds the mark is the first one of all. Assumes nothing.
-use mathlib.Core.Path.{◌≡◌, ◌∙◌}
+use mathlib.Core.Path.{◌∙◌}
 use Prim.Native.Nat.{◌-◌}
-use Rattle.arcstring.specs.Leg.{legs_from}
-use Rattle.arcstring_along.proofs.FirstFound.{from, from_start}
-use Rattle.arcstring_mark.specs.Mark.{first_holding}
+use Rattle.arcstring_along.proofs.FirstFound.{from_start}
 use Rattle.arcstring_mark.proofs.HoldingLegs.{holds_here, holds_later, holds_none}
-use borrow.Author.Rules.{rules}
 use Rattle.arcstring_mark.proofs.inner.holds.first_leg.Goals as goal
 
 pub loop-k-init : goal.loop-k-init

@@ -4,8 +4,6 @@ use lib.Ieee.{Float, binary64, div, lt}
 use Rattle.ieee754.specs.Size.{abs}
 use Rattle.sphericalpoint.proofs.Tolerances.{coplanar_bits}
 use Rattle.arcstring_mark.proofs.Cases.{far_off, outside, no_inside, between}
-use borrow.Author.Rules.{rules}
-use borrow.Author.Tests.{not-true, not-false}
 use Rattle.arcstring_mark.proofs.inner.holds.inside_leg.Goals as goal
 
 pub returns-then-far_off_plane : goal.returns-then-far_off_plane

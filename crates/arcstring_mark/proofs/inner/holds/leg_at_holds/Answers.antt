@@ -1,6 +1,5 @@
 -- The test of leg k by its two vertices. Assumes nothing.
 use Rattle.arcstring_mark.proofs.HoldingLegs.{vertices_tested}
-use borrow.Author.Rules.{rules}
 use Rattle.arcstring_mark.proofs.inner.holds.leg_at_holds.Goals as goal
 
 pub returns : goal.returns

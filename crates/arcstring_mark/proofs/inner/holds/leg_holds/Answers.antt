@@ -1,6 +1,5 @@
 -- `leg_holds` says yes where the mark equals an end, and else asks whether it lies inside. Assumes nothing.
 use Rattle.arcstring_mark.proofs.Cases.{yes_at_end, else_inside}
-use borrow.Author.Rules.{rules}
 use Rattle.arcstring_mark.proofs.inner.holds.leg_holds.Goals as goal
 
 pub returns-then-xyz_eq : goal.returns-then-xyz_eq

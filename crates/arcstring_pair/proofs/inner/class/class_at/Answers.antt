@@ -1,7 +1,6 @@
 -- The class by the four side values. Assumes nothing.
 use mathlib.Core.Path.{sym, ◌∙◌}
 use Rattle.arcstring_pair.proofs.Classes.{grazing_class_lem, above_class, below_class, apart_class_lem}
-use borrow.Author.Rules.{rules}
 use Rattle.arcstring_pair.proofs.inner.class.class_at.Goals as goal
 
 pub returns-then-some_grazing : goal.returns-then-some_grazing

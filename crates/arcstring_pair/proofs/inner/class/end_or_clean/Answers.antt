@@ -1,7 +1,6 @@
 -- Where the signs agree the class is an end or clean. Assumes nothing.
 use mathlib.Core.Path.{sym, ◌∙◌}
 use Rattle.arcstring_pair.proofs.Classes.{end_class_lem, clean_class}
-use borrow.Author.Rules.{rules}
 use Rattle.arcstring_pair.proofs.inner.class.end_or_clean.Goals as goal
 
 pub returns-then-at_end : goal.returns-then-at_end

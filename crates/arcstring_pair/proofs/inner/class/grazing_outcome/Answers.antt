@@ -1,7 +1,6 @@
 -- What a grazing pair keeps, by the signs of its side values. Assumes nothing.
 use mathlib.Core.Path.{sym, ◌∙◌}
 use Rattle.arcstring_pair.proofs.Classes.{positive_outcome, negative_outcome, mixed_outcome}
-use borrow.Author.Rules.{rules}
 use Rattle.arcstring_pair.proofs.inner.class.grazing_outcome.Goals as goal
 
 pub returns-then-all_sign_positive : goal.returns-then-all_sign_positive

@@ -1,7 +1,6 @@
 -- A grazing pair's point is kept unless it is an end. Assumes nothing.
 use mathlib.Core.Path.{sym, ◌∙◌}
 use Rattle.arcstring_pair.proofs.Classes.{end_dropped, other_kept}
-use borrow.Author.Rules.{rules}
 use Rattle.arcstring_pair.proofs.inner.class.kept_or_dropped.Goals as goal
 
 pub returns-then-at_end : goal.returns-then-at_end

@@ -1,6 +1,5 @@
 -- `build_piece` builds the string that the vertices make, by whether their ends meet, and keeps the first of their numbers. Assumes nothing.
 use mathlib.Core.Path.{sym, ◌∙◌}
-use native.Mathlib.Omega.{arith}
 use Rattle.arcstring_piece.proofs.inner.piece.BuiltPieces.{closed_piece, open_piece}
 use Rattle.arcstring_piece.proofs.inner.piece.build_piece.Goals as goal
 

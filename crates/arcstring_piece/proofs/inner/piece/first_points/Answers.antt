@@ -1,6 +1,5 @@
 -- `first_points` writes the vertices up to the start of leg i, and the point after them, floats and numbers alike. Assumes nothing.
 use native.Mathlib.Omega.{arith}
-use borrow.Author.Rules.{rules}
 use Rattle.arcstring_piece.proofs.inner.piece.HalfPoints.{first_written}
 use Rattle.arcstring_piece.proofs.inner.piece.first_points.Goals as goal
 

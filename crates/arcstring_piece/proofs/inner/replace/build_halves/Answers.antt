@@ -1,7 +1,6 @@
 -- `build_halves` builds the first piece at the start of `out`, and the second from where the first ends. Assumes nothing.
 use mathlib.Core.Path.{◌≡◌, sym, ◌∙◌}
 use Prim.Native.Nat.{◌+◌, ◌*◌, ◌≤◌}
-use native.Mathlib.Omega.{arith}
 use lib.ListN.{length}
 use Rattle.arcstring.specs.Points.{numbered, points}
 use Rattle.arcstring_check.specs.Check.{most_points}

@@ -1,12 +1,9 @@
 -- `replace_number` moves the numbers after place k one place further, the last one first, and puts two in the place of one: before each turn those from i on
 -- are moved. Assumes nothing.
-use mathlib.Core.Path.{◌≡◌, refl}
+use mathlib.Core.Path.{◌≡◌}
 use Prim.Native.Nat.{◌+◌, ◌-◌, ◌≤◌}
-use native.Mathlib.Omega.{arith}
-use lib.ListN.{length, take, drop, length-set}
+use lib.ListN.{length, take, drop}
 use Rattle.arcstring.specs.Splice.{splice}
-use Rattle.arcstring_insert.proofs.Moved.{moved_none, moved_step}
-use Rattle.arcstring_piece.proofs.inner.replace.Replaced.{moved_all}
 use Rattle.arcstring_piece.proofs.inner.replace.replace_number.Given as goal
 
 abbrev pub invariant-loop-i : goal.invariant-loop-i

@@ -1,10 +1,8 @@
 -- `sum_of` adds the first m numbers up: after i turns it has the sum of the first i. Assumes nothing.
-use mathlib.Core.Path.{◌≡◌, refl, sym, ap, ◌∙◌}
-use Prim.Native.Nat.{ℕ, ◌+◌, ◌-◌, ◌≤◌}
-use native.Mathlib.Omega.{arith}
-use lib.ListN.{get_or, take}
+use mathlib.Core.Path.{◌≡◌}
+use Prim.Native.Nat.{◌-◌, ◌≤◌}
+use lib.ListN.{take}
 use Rattle.arcstring_piece.specs.Pieces.{sum}
-use Rattle.arcstring_piece.proofs.inner.replace.Sums.{sum-next, sum-take-le}
 use Rattle.arcstring_piece.proofs.inner.replace.sum_of.Given as goal
 
 abbrev pub invariant-loop-i : goal.invariant-loop-i

@@ -1,6 +1,5 @@
 -- A pair's class, its mark and its point are put into their places, and a refusal changes none. Assumes nothing.
 use mathlib.Core.Path.{refl}
-use borrow.Author.Rules.{rules}
 use Rattle.arcstring_put_found.proofs.inner.pair.put_pair.Goals as goal
 
 pub number-requires : goal.number-requires

@@ -1,7 +1,6 @@
 -- One pair more: its class goes up by one, and the kept count where it keeps a point. Assumes nothing.
 use native.Mathlib.Omega.{arith}
 use Rattle.arcstring_tally.proofs.Tallies.{count_clean, count_end, count_grazing, count_apart, kept_of_grazing}
-use borrow.Author.Rules.{rules}
 use Rattle.arcstring_tally.proofs.inner.tally.add.Goals as goal
 
 pub outcome_kept-requires : goal.outcome_kept-requires

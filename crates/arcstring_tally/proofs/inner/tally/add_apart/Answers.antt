@@ -2,7 +2,6 @@
 use Prim.Native.Nat.{◌-◌}
 use native.Mathlib.Omega.{arith}
 use Rattle.arcstring_tally.proofs.Tallies.{count_aparts, count_no_aparts}
-use borrow.Author.Rules.{rules}
 use Rattle.arcstring_tally.proofs.inner.tally.add_apart.Goals as goal
 
 pub returns-then-to-from : goal.returns-then-to-from

@@ -1,7 +1,6 @@
 -- A point and its mark are written at one place. Assumes nothing.
 use native.Mathlib.Omega.{arith}
 use Rattle.arcstring.proofs.Splices.{set-splice}
-use borrow.Author.Rules.{rules}
 use Rattle.arcstring_tally.proofs.inner.tally.put_mark.Goals as goal
 
 pub shape_of-points : goal.shape_of-points

@@ -1,7 +1,6 @@
 -- What one pair keeps is written at a place: one point and its mark, or nothing. Assumes nothing.
 use Rattle.arcstring_tally.proofs.Marks.{keeps_clean, keeps_kept, dropped_keeps_none, no_point_keeps_none, end_keeps_none, apart_keeps_none}
 use Rattle.arcstring_tally.proofs.Marks.{room_for-one, one_written, none_written}
-use borrow.Author.Rules.{rules}
 use Rattle.arcstring_tally.proofs.inner.tally.store.Goals as goal
 
 pub put_mark-requires : goal.put_mark-requires

@@ -3,7 +3,6 @@ use mathlib.Core.Path.{refl}
 use Rattle.ieee754.proofs.Tests.{never}
 use Rattle.arcstring_visit.specs.Visit.{visits_from}
 use Rattle.arcstring_visit.proofs.Walks.{no_room_asked}
-use borrow.Author.Rules.{rules}
 use Rattle.arcstring_visit.proofs.inner.walk.count_between.Goals as goal
 
 pub visit-requires : goal.visit-requires

@@ -2,7 +2,6 @@
 use mathlib.Core.Path.{refl}
 use Rattle.arcstring_visit.specs.Visit.{visits_from}
 use Rattle.arcstring_visit.proofs.Walks.{no_room_asked}
-use borrow.Author.Rules.{rules}
 use Rattle.arcstring_visit.proofs.inner.walk.count_within.Goals as goal
 
 pub visit-requires : goal.visit-requires

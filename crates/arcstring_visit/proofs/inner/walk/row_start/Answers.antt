@@ -1,6 +1,5 @@
 -- Where the row of a leg begins. Assumes nothing.
 use Rattle.arcstring_visit.specs.Visit.{row_start}
-use borrow.Author.Rules.{rules}
 use Rattle.arcstring_visit.proofs.inner.walk.row_start.Goals as goal
 
 pub returns-then-within : goal.returns-then-within

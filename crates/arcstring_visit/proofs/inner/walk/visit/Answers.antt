@@ -1,5 +1,4 @@
 -- Lists of the smaller size where they are long enough, else of the larger. Assumes nothing.
-use borrow.Author.Rules.{rules}
 use Rattle.arcstring_visit.proofs.inner.walk.visit.Goals as goal
 
 pub visit_short-requires : goal.visit_short-requires

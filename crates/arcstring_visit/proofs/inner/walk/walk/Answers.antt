@@ -4,16 +4,13 @@ use mathlib.Core.Path.{◌≡◌, refl, ◌∙◌}
 use mathlib.Core.List.{◌++◌}
 use Prim.Native.Nat.{◌+◌, ◌-◌}
 use native.Mathlib.Nat.{le_trans}
-use lib.ListN.{length}
 use Rattle.arcstring.specs.Leg.{leg_of}
-use Rattle.arcstring_tally.specs.Tally.{no_tally, tally_on}
 use Rattle.arcstring_visit.specs.Visit.{row_pairs, visits_from}
 use Rattle.arcstring_visit.proofs.Bounds.{place_small, step_fits, still_long, sum_with_row}
 use Rattle.arcstring_visit.proofs.Rows.{visits_next, visits_none, visits_few}
 use Rattle.arcstring_tally.proofs.Tallies.{counted_on, counted_none, counted_all}
-use Rattle.arcstring_visit.proofs.Walks.{WalksSame, walk_from_none, walk_room, walk_on, walk_done}
+use Rattle.arcstring_visit.proofs.Walks.{walk_from_none, walk_room, walk_on, walk_done}
 use borrow.Author.Count.{falls}
-use borrow.Author.Rules.{rules}
 use Rattle.arcstring_visit.proofs.inner.walk.walk.Goals as goal
 
 pub none-t-requires : goal.none-t-requires

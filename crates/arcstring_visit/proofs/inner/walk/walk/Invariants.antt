@@ -1,19 +1,11 @@
 -- The legs of one string against those of another, or of the same, counted and, if the walk writes, written. The loop's invariant: what is counted, with the
 -- pairs still to be visited counted on, is the count of all pairs, and so of what is written. Assumes nothing.
-use mathlib.Core.Path.{◌≡◌, refl, ◌∙◌}
-use mathlib.Core.List.{◌++◌}
-use Prim.Native.Nat.{◌+◌, ◌-◌}
-use native.Mathlib.Nat.{le_trans}
+use mathlib.Core.Path.{◌≡◌}
+use Prim.Native.Nat.{◌-◌}
 use lib.ListN.{length}
-use Rattle.arcstring.specs.Leg.{leg_of}
 use Rattle.arcstring_tally.specs.Tally.{no_tally, tally_on}
-use Rattle.arcstring_visit.specs.Visit.{row_pairs, visits_from}
-use Rattle.arcstring_visit.proofs.Bounds.{place_small, step_fits, still_long, sum_with_row}
-use Rattle.arcstring_visit.proofs.Rows.{visits_next, visits_none, visits_few}
-use Rattle.arcstring_tally.proofs.Tallies.{counted_on, counted_none, counted_all}
-use Rattle.arcstring_visit.proofs.Walks.{WalksSame, walk_from_none, walk_room, walk_on, walk_done}
-use borrow.Author.Count.{falls}
-use borrow.Author.Rules.{rules}
+use Rattle.arcstring_visit.specs.Visit.{visits_from}
+use Rattle.arcstring_visit.proofs.Walks.{WalksSame}
 use Rattle.arcstring_visit.proofs.inner.walk.walk.Given as goal
 
 abbrev pub invariant-loop-i : goal.invariant-loop-i

@@ -4,14 +4,12 @@ use mathlib.Core.Path.{◌≡◌, refl, ◌∙◌}
 use mathlib.Core.List.{[], ◌∷◌, ◌++◌}
 use Prim.Native.Nat.{◌+◌, ◌-◌}
 use native.Mathlib.Nat.{lt_of_lt_of_le, lt_of_le_of_lt}
-use lib.ListN.{length}
 use Rattle.arcstring.specs.Leg.{leg_of}
-use Rattle.arcstring_tally.specs.Tally.{tally_on}
 use Rattle.arcstring_visit.specs.Visit.{found_pairs}
 use Rattle.arcstring_visit.proofs.Bounds.{step_fits}
 use Rattle.arcstring_visit.proofs.Sifted.{found_next, found_none, found_few}
 use Rattle.arcstring_tally.proofs.Tallies.{counted_on, counted_all, sum_so_far}
-use Rattle.arcstring_visit.proofs.Walks.{WalksSame, walk_start, walk_room, walk_on, walk_done}
+use Rattle.arcstring_visit.proofs.Walks.{walk_start, walk_room, walk_on, walk_done}
 use borrow.Author.Count.{falls}
 use borrow.Author.Rules.{scaled_Fits}
 use Rattle.arcstring_visit.proofs.inner.walk.walk_found.Goals as goal

@@ -1,6 +1,5 @@
 -- `conclusion_of` hands the counting call's answer on, with the number of a refusal. Assumes nothing.
 use mathlib.Core.Path.{sym, ap, ◌∙◌}
-use borrow.Author.Rules.{rules}
 use Rattle.arcstring_check.specs.Answer.{refused}
 use Rattle.arcstring_listing.specs.Listing.{counted_answer}
 use Rattle.textform_count.proofs.inner.count.conclusion_of.Goals as goal

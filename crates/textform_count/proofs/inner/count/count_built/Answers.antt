@@ -2,7 +2,6 @@
 use mathlib.Core.Path.{sym, ◌∙◌}
 use native.Mathlib.Omega.{arith}
 use lib.Ieee.{of_bits}
-use borrow.Author.Rules.{rules}
 use Rattle.textform_count.proofs.inner.count.BuiltStrings.{build_refused, build_stands, first_refused, second_refused, both_counted}
 use Rattle.textform_count.proofs.inner.count.count_built.Goals as goal
 

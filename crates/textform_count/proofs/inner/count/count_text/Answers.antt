@@ -1,6 +1,5 @@
 -- `count_text` prints the output of the definition for the bytes that it is given. Assumes nothing.
 use Rattle.textform_count.proofs.inner.count.Outputs.{begun, whole_output}
-use borrow.Author.Rules.{rules}
 use Rattle.textform_count.proofs.inner.count.count_text.Goals as goal
 
 pub returns : goal.returns

@@ -1,6 +1,5 @@
 -- `print_counts` writes the heading, and the four counts below it. Assumes nothing.
 use native.Mathlib.Omega.{arith}
-use borrow.Author.Rules.{rules}
 use Rattle.textform_count.proofs.inner.print.Printed.{counts_written}
 use Rattle.textform_count.proofs.inner.print.print_counts.Goals as goal
 

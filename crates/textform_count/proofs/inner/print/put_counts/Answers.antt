@@ -1,7 +1,6 @@
 -- `put_counts` writes the four counts, one after the other, the last with the byte that it is given. Assumes nothing.
 use native.Mathlib.Omega.{arith}
 use lib.ListN.{take}
-use borrow.Author.Rules.{rules}
 use Rattle.textform_count.proofs.inner.print.Printed.{four_written}
 use Rattle.textform_count.proofs.inner.print.put_counts.Goals as goal
 

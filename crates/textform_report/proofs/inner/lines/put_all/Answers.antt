@@ -1,7 +1,6 @@
 -- `put_all` writes the word for all tracks, and the rest of their line. Assumes nothing.
 use native.Mathlib.Omega.{arith}
 use lib.ListN.{take}
-use borrow.Author.Rules.{rules}
 use Rattle.textform_report.specs.Report.{all_word}
 use Rattle.textform_report.proofs.inner.lines.Lines.{line_written}
 use Rattle.textform_report.proofs.inner.lines.put_all.Goals as goal

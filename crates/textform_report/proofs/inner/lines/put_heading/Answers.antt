@@ -1,5 +1,4 @@
 -- `put_heading` writes the heading's bytes. Assumes nothing.
-use borrow.Author.Rules.{rules}
 use Rattle.textform_report.specs.Report.{report_heading}
 use Rattle.textform_report.proofs.inner.lines.put_heading.Goals as goal
 

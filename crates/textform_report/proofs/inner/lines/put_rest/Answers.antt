@@ -2,7 +2,6 @@
 use native.Mathlib.Omega.{arith}
 use lib.ListN.{take}
 use Rattle.textform_report.proofs.inner.lines.Lines.{rest_written}
-use borrow.Author.Rules.{rules}
 use Rattle.textform_report.proofs.inner.lines.put_rest.Goals as goal
 
 pub returns : goal.returns

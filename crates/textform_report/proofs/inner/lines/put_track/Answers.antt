@@ -1,7 +1,6 @@
 -- `put_track` writes the track's number, and the rest of its line. Assumes nothing.
 use native.Mathlib.Omega.{arith}
 use lib.ListN.{take}
-use borrow.Author.Rules.{rules}
 use Rattle.textform.specs.Print.{decimal}
 use Rattle.textform_report.proofs.inner.lines.Lines.{line_written}
 use Rattle.textform_report.proofs.inner.lines.put_track.Goals as goal

@@ -1,6 +1,5 @@
 -- `permille` answers 0 where there are no pairs, and else the quotient of the definition. Assumes nothing.
 use Rattle.textform_report.proofs.PermilleLaws.{none_to_divide, some_to_divide}
-use borrow.Author.Rules.{rules}
 use Rattle.textform_report.proofs.inner.permille.permille.Goals as goal
 
 pub returns-then-pairs-eq0 : goal.returns-then-pairs-eq0

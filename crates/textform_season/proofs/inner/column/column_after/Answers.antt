@@ -1,6 +1,5 @@
 -- `column_after` takes one byte more of the first column, by what stands there. Assumes nothing.
 use mathlib.Core.Path.{◌∙◌, subst}
-use borrow.Author.Rules.{rules}
 use Rattle.textform_season.specs.Kept.{ColumnSound}
 use Rattle.textform_season.proofs.inner.column.Digits.{found, letter_first, digit_first, none_after_letter, digit_next}
 use Rattle.textform_season.proofs.inner.column.column_after.Goals as goal

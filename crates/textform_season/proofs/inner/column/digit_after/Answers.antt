@@ -1,6 +1,5 @@
 -- `digit_after` puts a byte's digit after those so far, where it has one. Assumes nothing.
 use mathlib.Core.Path.{sym, ap, ◌∙◌}
-use borrow.Author.Rules.{rules}
 use Rattle.textform.specs.Kept.{digit_value}
 use Rattle.textform_season.specs.Season.{digit_after}
 use Rattle.textform_season.proofs.inner.column.digit_after.Goals as goal

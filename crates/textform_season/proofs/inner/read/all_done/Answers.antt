@@ -2,7 +2,6 @@
 use mathlib.Core.Path.{sym}
 use lib.Seq.{length-take-le}
 use Rattle.textform_season.proofs.inner.read.Held.{none_done, last_done}
-use borrow.Author.Rules.{rules}
 use native.Mathlib.Omega.{arith}
 use Rattle.textform_season.proofs.inner.read.all_done.Goals as goal
 

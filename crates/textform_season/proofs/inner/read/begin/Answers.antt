@@ -1,7 +1,6 @@
 -- `begin` holds nothing but the heading. Assumes nothing.
 use Rattle.textform_count.proofs.inner.count.Outputs.{begun}
 use Rattle.textform_season.specs.declared.inner.column.Column.TheVariants as C
-use borrow.Author.Rules.{rules}
 use native.Mathlib.Omega.{arith}
 use Rattle.textform_season.proofs.inner.read.begin.Goals as goal
 

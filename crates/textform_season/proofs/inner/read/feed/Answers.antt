@@ -1,9 +1,8 @@
 -- `feed` takes the bytes in turn: what is left of them, fed to what is held, gives the whole. Assumes nothing.
-use mathlib.Core.Path.{◌≡◌, refl, sym, ◌∙◌}
-use Prim.Native.Nat.{◌≤◌, ◌-◌}
-use lib.ListN.{length, drop}
-use Rattle.textform.specs.Kept.{floats_kept, keep}
-use Rattle.textform_season.specs.Kept.{report_room, end_track, held_season, SeasonSound, kept_fed}
+use mathlib.Core.Path.{refl, sym, ◌∙◌}
+use Prim.Native.Nat.{◌-◌}
+use Rattle.textform.specs.Kept.{keep}
+use Rattle.textform_season.specs.Kept.{end_track}
 use Rattle.textform.proofs.Turns.{fed-next, fed_all}
 use Rattle.textform_season.specs.Season.{step_with}
 use native.Mathlib.Omega.{arith}

@@ -1,12 +1,9 @@
 -- `feed` takes the bytes in turn: what is left of them, fed to what is held, gives the whole. Assumes nothing.
-use mathlib.Core.Path.{◌≡◌, refl, sym, ◌∙◌}
+use mathlib.Core.Path.{◌≡◌}
 use Prim.Native.Nat.{◌≤◌, ◌-◌}
 use lib.ListN.{length, drop}
-use Rattle.textform.specs.Kept.{floats_kept, keep}
-use Rattle.textform_season.specs.Kept.{report_room, end_track, held_season, SeasonSound, kept_fed}
-use Rattle.textform.proofs.Turns.{fed-next, fed_all}
-use Rattle.textform_season.specs.Season.{step_with}
-use native.Mathlib.Omega.{arith}
+use Rattle.textform.specs.Kept.{floats_kept}
+use Rattle.textform_season.specs.Kept.{report_room, held_season, SeasonSound, kept_fed}
 use Rattle.textform_season.proofs.inner.read.feed.Given as goal
 
 abbrev pub invariant-loop-i : goal.invariant-loop-i

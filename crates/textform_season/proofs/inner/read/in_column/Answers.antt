@@ -5,7 +5,6 @@ use Rattle.textform_season.specs.declared.inner.column.Column.{Column}
 use Rattle.textform_season.specs.Season.{in_column}
 use Rattle.textform_season.specs.Kept.{next_column, NextSound, held_season}
 use Rattle.textform_season.proofs.inner.read.Held.{column_becomes}
-use borrow.Author.Rules.{rules}
 use Rattle.textform_season.proofs.inner.read.in_column.Goals as goal
 
 pub column_after-next-requires : goal.column_after-next-requires

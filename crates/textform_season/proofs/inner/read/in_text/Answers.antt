@@ -1,6 +1,5 @@
 -- `in_text` takes a byte as the text form of two strings does, by `Held`. Assumes nothing.
 use Rattle.textform_season.proofs.inner.read.Held.{text_held}
-use borrow.Author.Rules.{rules}
 use Rattle.textform_season.proofs.inner.read.in_text.Goals as goal
 
 pub step-requires : goal.step-requires

@@ -2,7 +2,6 @@
 use mathlib.Core.Path.{◌∙◌}
 use Rattle.textform_season.specs.Kept.{held_season}
 use Rattle.textform_season.proofs.inner.read.Held.{before_tracks, after_track}
-use borrow.Author.Rules.{rules}
 use Rattle.textform_season.proofs.inner.read.limit_row.Goals as goal
 
 pub returns-then-r-gt0 : goal.returns-then-r-gt0

@@ -1,6 +1,5 @@
 -- `next_track` ends the last track and begins the next, by `Held`. Assumes nothing.
 use Rattle.textform_season.proofs.inner.read.Held.{next-held}
-use borrow.Author.Rules.{rules}
 use Rattle.textform_season.proofs.inner.read.next_track.Goals as goal
 
 pub all_done-tracks-requires : goal.all_done-tracks-requires

@@ -3,7 +3,6 @@ use mathlib.Core.Path.{◌≡◌, sym, ap, ◌∙◌, subst}
 use Rattle.textform_season.specs.declared.inner.column.Column.{Column}
 use Rattle.textform_season.specs.Season.{row_of}
 use Rattle.textform_season.specs.Kept.{ColumnSound, end_track, held_season}
-use borrow.Author.Rules.{rules}
 use Rattle.textform_season.proofs.inner.read.row_of.Goals as goal
 
 pub malformed-requires : goal.malformed-requires

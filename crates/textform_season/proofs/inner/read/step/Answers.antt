@@ -2,7 +2,6 @@
 use mathlib.Core.Path.{◌∙◌}
 use Rattle.textform_season.specs.Kept.{held_season}
 use Rattle.textform_season.proofs.inner.read.Held.{step-in_text, step_at-blank, step-in_column}
-use borrow.Author.Rules.{rules}
 use Rattle.textform_season.proofs.inner.read.step.Goals as goal
 
 pub in_text-requires : goal.in_text-requires

@@ -4,7 +4,6 @@ use mathlib.Core.Bool.{true}
 use Rattle.textform_season.specs.Season.{on_in_row}
 use Rattle.textform_season.specs.Kept.{held_season}
 use Rattle.textform_season.proofs.inner.read.Held.{same_track, one_more_track, no_such_track}
-use borrow.Author.Rules.{rules}
 use native.Mathlib.Omega.{arith}
 use Rattle.textform_season.proofs.inner.read.track_row.Goals as goal
 

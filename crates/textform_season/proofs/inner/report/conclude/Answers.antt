@@ -2,7 +2,6 @@
 use mathlib.Core.Path.{refl}
 use Rattle.textform_season.specs.Kept.{held_season}
 use Rattle.textform_season.proofs.inner.report.Reports.{within_row, within_column, at_row_start}
-use borrow.Author.Rules.{rules}
 use native.Mathlib.Omega.{arith}
 use Rattle.textform_season.proofs.inner.report.conclude.Goals as goal
 

@@ -3,7 +3,6 @@ use mathlib.Core.Path.{sym, ap, ◌∙◌, subst}
 use Rattle.textform_report.specs.Permille.{most_tracks}
 use Rattle.textform_season.specs.declared.inner.track.Tracks.{Tracks}
 use Rattle.textform_season.specs.Kept.{held_tracks, TracksSound, printed_report}
-use borrow.Author.Rules.{rules}
 use native.Mathlib.Omega.{arith}
 use Rattle.textform_season.proofs.inner.report.print_tracks.Goals as goal
 

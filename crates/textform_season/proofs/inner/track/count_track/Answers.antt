@@ -1,5 +1,4 @@
 -- `count_track` counts a track with the limit, and puts its line or its refusal, by `TrackLines`. Assumes nothing.
-use borrow.Author.Rules.{rules}
 use Rattle.textform_season.specs.Kept.{held_lines}
 use Rattle.textform_season.proofs.TrackCounts.{pairs_of_track}
 use Rattle.textform_season.proofs.inner.track.TrackLines.{is_counted, track_counted, track_refused}

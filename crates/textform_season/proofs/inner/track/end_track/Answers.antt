@@ -1,6 +1,5 @@
 -- `end_track` counts a track, unless one before it was refused. Assumes nothing.
 use mathlib.Core.Path.{sym, ap, ◌∙◌, subst}
-use borrow.Author.Rules.{rules}
 use Rattle.textform_season.specs.declared.inner.track.Tracks.{Tracks}
 use Rattle.textform_season.specs.Kept.{end_track, held_tracks, TracksSound}
 use Prim.Native.Nat.{◌-◌}

@@ -1,5 +1,4 @@
 -- `no_tracks` writes the heading, by `TrackLines`. Assumes nothing.
-use borrow.Author.Rules.{rules}
 use Rattle.textform_season.proofs.inner.track.TrackLines.{no_lines}
 use Rattle.textform_season.proofs.inner.track.no_tracks.Goals as goal
 

@@ -1,6 +1,5 @@
 -- `with_track` puts a track's line after those before it, and adds its counts, by `TrackLines`. Assumes nothing.
 use native.Mathlib.Omega.{arith}
-use borrow.Author.Rules.{rules}
 use Rattle.textform_season.proofs.inner.track.TrackLines.{line_put}
 use Rattle.textform_season.proofs.inner.track.with_track.Goals as goal
 
