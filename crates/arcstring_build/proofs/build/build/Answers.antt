@@ -8,6 +8,7 @@ use Rattle.arcstring_build.specs.Build.{built_numbered, build}
 use Rattle.arcstring.proofs.Written.{both_fit}
 use Rattle.arcstring_build.proofs.Builds.{closed_vertices, closed_length, open_vertices, open_length, closed_flag, refused_build, accepted_whole}
 use Rattle.arcstring_build.proofs.Builds.{accepted_two, accepted_buoys, build_short, build_done}
+use borrow.Author.Rules.{rules}
 use Rattle.arcstring_build.proofs.build.build.Goals as goal
 
 pub returns-in-Refused : goal.returns-in-Refused

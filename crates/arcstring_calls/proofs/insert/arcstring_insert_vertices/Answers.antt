@@ -14,11 +14,13 @@ put_count-requires c = tt
 
 pub returns : goal.returns
 returns c =
-    let w = rw c.is_closed-flag.ensures at (c.insert_vertices-r.ensures.result_value, (c.insert_vertices-r.ensures.out_after, c.insert_vertices-r.ensures.out_buoys_after)) in
-    let q = written_as (insert_vertices _ _ _ _ _ _ _) _ w.0 c.put_count.ensures in
+    let w0 = rw c.is_closed-flag.ensures at c.insert_vertices-r.ensures.result_value in
+    let w1 = rw c.is_closed-flag.ensures at c.insert_vertices-r.ensures.out_after in
+    let w2 = rw c.is_closed-flag.ensures at c.insert_vertices-r.ensures.out_buoys_after in
+    let q = written_as (insert_vertices _ _ _ _ _ _ _) _ w0 c.put_count.ensures in
     record {
       value = q.0;
-      out_after = w.1.0;
-      out_buoys_after = w.1.1;
+      out_after = w1;
+      out_buoys_after = w2;
       count_after = q.1;
     }

@@ -17,12 +17,14 @@ put_listing-requires c = tt
 
 pub returns : goal.returns
 returns c =
-    let w = rw (c.is_closed-first.ensures, c.is_closed-second.ensures) at (c.crossings-r.ensures.result_value, (c.crossings-r.ensures.points_after, c.crossings-r.ensures.marks_after)) in
-    let q = listed_as (crossings _ _ _ _ _ _ _) _ _ w.0 c.put_listing.ensures in
+    let w0 = rw (c.is_closed-first.ensures, c.is_closed-second.ensures) at c.crossings-r.ensures.result_value in
+    let w1 = rw (c.is_closed-first.ensures, c.is_closed-second.ensures) at c.crossings-r.ensures.points_after in
+    let w2 = rw (c.is_closed-first.ensures, c.is_closed-second.ensures) at c.crossings-r.ensures.marks_after in
+    let q = listed_as (crossings _ _ _ _ _ _ _) _ _ w0 c.put_listing.ensures in
     record {
       value = q.0;
-      points_after = w.1.0;
-      marks_after = w.1.1;
+      points_after = w1;
+      marks_after = w2;
       kept_after = (q.1).0;
       counts_after = (q.1).1;
     }

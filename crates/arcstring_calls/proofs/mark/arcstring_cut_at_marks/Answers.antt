@@ -14,12 +14,15 @@ put_pieces-requires c = tt
 
 pub returns : goal.returns
 returns c =
-    let w = rw c.is_closed.ensures at (c.cut_at_marks-r.ensures.result_value, (c.cut_at_marks-r.ensures.out_after, (c.cut_at_marks-r.ensures.out_buoys_after, c.cut_at_marks-r.ensures.counts_after))) in
-    let q = pieces_as (cut_at_marks _ _ _ _ _ _ _ _) _ w.0 c.put_pieces.ensures in
+    let w0 = rw c.is_closed.ensures at c.cut_at_marks-r.ensures.result_value in
+    let w1 = rw c.is_closed.ensures at c.cut_at_marks-r.ensures.out_after in
+    let w2 = rw c.is_closed.ensures at c.cut_at_marks-r.ensures.out_buoys_after in
+    let w3 = rw c.is_closed.ensures at c.cut_at_marks-r.ensures.counts_after in
+    let q = pieces_as (cut_at_marks _ _ _ _ _ _ _ _) _ w0 c.put_pieces.ensures in
     record {
       value = q.0;
-      out_after = w.1.0;
-      out_buoys_after = w.1.1.0;
-      counts_after = w.1.1.1;
+      out_after = w1;
+      out_buoys_after = w2;
+      counts_after = w3;
       pieces_after = q.1;
     }

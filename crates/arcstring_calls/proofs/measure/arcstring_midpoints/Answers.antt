@@ -14,10 +14,11 @@ put_count-requires c = tt
 
 pub returns : goal.returns
 returns c =
-    let w = rw c.is_closed.ensures at (c.midpoints-r.ensures.result_value, c.midpoints-r.ensures.out_after) in
-    let q = written_as (midpoints _ _ _) _ w.0 c.put_count.ensures in
+    let w0 = rw c.is_closed.ensures at c.midpoints-r.ensures.result_value in
+    let w1 = rw c.is_closed.ensures at c.midpoints-r.ensures.out_after in
+    let q = written_as (midpoints _ _ _) _ w0 c.put_count.ensures in
     record {
       value = q.0;
-      out_after = w.1;
+      out_after = w1;
       count_after = q.1;
     }

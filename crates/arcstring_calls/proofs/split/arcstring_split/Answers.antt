@@ -14,13 +14,17 @@ put_pieces-requires c = tt
 
 pub returns : goal.returns
 returns c =
-    let w = rw c.is_closed.ensures at (c.split_arcstring_at_points-r.ensures.result_value, (c.split_arcstring_at_points-r.ensures.out_after, (c.split_arcstring_at_points-r.ensures.out_buoys_after, (c.split_arcstring_at_points-r.ensures.counts_after, c.split_arcstring_at_points-r.ensures.flags_after)))) in
-    let q = pieces_as (split_string _ _ _ _ _ _ _ _ _) _ w.0 c.put_pieces.ensures in
+    let w0 = rw c.is_closed.ensures at c.split_arcstring_at_points-r.ensures.result_value in
+    let w1 = rw c.is_closed.ensures at c.split_arcstring_at_points-r.ensures.out_after in
+    let w2 = rw c.is_closed.ensures at c.split_arcstring_at_points-r.ensures.out_buoys_after in
+    let w3 = rw c.is_closed.ensures at c.split_arcstring_at_points-r.ensures.counts_after in
+    let w4 = rw c.is_closed.ensures at c.split_arcstring_at_points-r.ensures.flags_after in
+    let q = pieces_as (split_string _ _ _ _ _ _ _ _ _) _ w0 c.put_pieces.ensures in
     record {
       value = q.0;
-      out_after = w.1.0;
-      out_buoys_after = w.1.1.0;
-      counts_after = w.1.1.1.0;
-      flags_after = w.1.1.1.1;
+      out_after = w1;
+      out_buoys_after = w2;
+      counts_after = w3;
+      flags_after = w4;
       pieces_after = q.1;
     }

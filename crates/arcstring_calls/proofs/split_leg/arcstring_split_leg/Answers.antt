@@ -14,10 +14,11 @@ put_pieces-requires c = tt
 
 pub returns : goal.returns
 returns c =
-    let w = rw c.leg_of_six.ensures at (c.split_arc_at_points-r.ensures.result_value, c.split_arc_at_points-r.ensures.out_after) in
-    let q = pieces_as (split_leg _ _ _) _ w.0 c.put_pieces.ensures in
+    let w0 = rw c.leg_of_six.ensures at c.split_arc_at_points-r.ensures.result_value in
+    let w1 = rw c.leg_of_six.ensures at c.split_arc_at_points-r.ensures.out_after in
+    let q = pieces_as (split_leg _ _ _) _ w0 c.put_pieces.ensures in
     record {
       value = q.0;
-      out_after = w.1;
+      out_after = w1;
       pieces_after = q.1;
     }

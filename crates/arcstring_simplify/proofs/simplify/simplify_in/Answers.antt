@@ -9,6 +9,7 @@ use Rattle.arcstring_check.proofs.Checks.{as_many_buoys}
 use Rattle.arcstring.proofs.Written.{both_fit, held_at_most}
 use Rattle.arcstring_rounds.proofs.Left.{left-within}
 use Rattle.arcstring_simplify.proofs.Simplifies.{simplify_past_end, simplify_no_room, simplify_done}
+use borrow.Author.Rules.{rules}
 use Rattle.arcstring_simplify.proofs.simplify.simplify_in.Goals as goal
 
 pub simplify_positions-left-requires : goal.simplify_positions-left-requires
