@@ -28,4 +28,4 @@ pub returns : goal.returns
 returns c = table_rule roots tt c.args.n c.requires.0 c.requires.1
 
 pub overflow_cast-result : goal.overflow_cast-result
-overflow_cast-result c = record { fits = lt_of_lt_of_le (root_lt 128 (returns c) (omega arith)) (lit≤ tt) }
+overflow_cast-result c = record { fits = lt_of_lt_of_le (root_lt 128 (table_rule roots tt c.args.n c.requires.0 c.requires.1) (omega arith)) (lit≤ tt) }
