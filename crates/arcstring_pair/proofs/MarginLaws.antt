@@ -82,11 +82,11 @@ module _ (margin : Float) (h : margin_check margin ≡ 0) where
 -- a pair whose signs agree has the point, and keeps it, as a grazing one does
 agreeing : (p : SphericalPoint) (a b : Leg) → SamePoint (judged (end_or_clean p a b)) (judged (Grazing (kept_or_dropped p a b)))
 unfolding end_or_clean kept_or_dropped
-agreeing p a b = go (at_end p a b)
+agreeing p a b = go (at_end p a b) refl
   where
-    go : (e : Bool) → SamePoint (judged (pick e (End p) (Clean p))) (judged (Grazing (pick e (Dropped p) (Kept p))))
-    go true = record { same_point = refl; same_kept = refl }
-    go false = record { same_point = refl; same_kept = refl }
+    go : (e : Bool) → at_end p a b ≡ e → SamePoint (judged (end_or_clean p a b)) (judged (Grazing (kept_or_dropped p a b)))
+    go true h = rw h record { same_point = refl; same_kept = refl }
+    go false h = rw h record { same_point = refl; same_kept = refl }
 
 -- whatever the margin, it is that of a grazing pair
 module _ (t : SphericalPoint) (a b : Leg) where

@@ -104,19 +104,19 @@ record Told (j : Judged) (r : Option SphericalPoint) (e agree graze differ : Boo
 module _ (x : SphericalPoint) (a b : Leg) where
   told_grazing : {agree differ : Bool} → Told (judged (Grazing (kept_or_dropped x a b))) (some x) (at_end x a b) agree true differ
   unfolding kept_or_dropped
-  told_grazing {agree} {differ} = go (at_end x a b)
+  told_grazing {agree} {differ} = go (at_end x a b) refl
     where
-      go : (e : Bool) → Told (judged (Grazing (pick e (Dropped x) (Kept x)))) (some x) e agree true differ
-      go true = record { point = refl; kept = refl; clean = refl; end = refl; grazing = refl; apart = refl }
-      go false = record { point = refl; kept = refl; clean = refl; end = refl; grazing = refl; apart = refl }
+      go : (e : Bool) → at_end x a b ≡ e → Told (judged (Grazing (kept_or_dropped x a b))) (some x) e agree true differ
+      go true h = rw h record { point = refl; kept = refl; clean = refl; end = refl; grazing = refl; apart = refl }
+      go false h = rw h record { point = refl; kept = refl; clean = refl; end = refl; grazing = refl; apart = refl }
 
   told_agreeing : Told (judged (end_or_clean x a b)) (some x) (at_end x a b) true false false
   unfolding end_or_clean
-  told_agreeing = go (at_end x a b)
+  told_agreeing = go (at_end x a b) refl
     where
-      go : (e : Bool) → Told (judged (pick e (End x) (Clean x))) (some x) e true false false
-      go true = record { point = refl; kept = refl; clean = refl; end = refl; grazing = refl; apart = refl }
-      go false = record { point = refl; kept = refl; clean = refl; end = refl; grazing = refl; apart = refl }
+      go : (e : Bool) → at_end x a b ≡ e → Told (judged (end_or_clean x a b)) (some x) e true false false
+      go true h = rw h record { point = refl; kept = refl; clean = refl; end = refl; grazing = refl; apart = refl }
+      go false h = rw h record { point = refl; kept = refl; clean = refl; end = refl; grazing = refl; apart = refl }
 
 -- t and t negated, of the legs a and b
 module _ (a b : Leg) (t u : SphericalPoint) where
