@@ -32,7 +32,7 @@ def exported():
     """what each exported function is in C: its result and its parameters"""
     found = {}
     for file in sorted((TOP / "crates/arcstring_c/src").glob("*.rt")):
-        pattern = r"#\[no_mangle\]\s*pub extern \"C\" fn (\w+)\((.*?)\)(?: -> (\w+))?\s*ensures"
+        pattern = r"#\[unsafe\(no_mangle\)\]\s*pub extern \"C\" fn (\w+)\((.*?)\)(?: -> (\w+))?\s*ensures"
         for name, parameters, result in re.findall(pattern, file.read_text(), re.S):
             pairs = [p.split(":", 1) for p in re.split(r",\s*", parameters.strip().rstrip(",")) if p]
             found[name] = (SINGLE.get(result, "void"), [c for n, kind in pairs for c in in_c(n.strip(), kind.strip())])
