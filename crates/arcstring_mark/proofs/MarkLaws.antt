@@ -29,12 +29,12 @@ pub others_between : OthersBetween
 unfolding inside_leg
 others_between p l h held =
     let six = all_six (short l) (not_antipodal l) (coplanar p l) (by_start p l) (by_end p l) (near_side p l) (no_end p l h ∙ held) in
-    (record { normal_long = six.0; not-antipodal = six.1 }, record { coplanar = six.2; by-start = six.3; by_end_lem = six.4; near-side = six.5 })
+    (record { normal_long = six.0; not-antipodal = six.1 }, record { coplanar = six.2; by-start = six.3; by-end = six.4; near-side = six.5 })
 
 pub between_held : BetweenHeld
 unfolding mark_on_leg inside_leg
 between_held p l has is =
-    (λ i. equals_end p l || (not (has.normal_long i) && has.not-antipodal i && is.coplanar i && is.by-start i && is.by_end_lem i && is.near-side i))
+    (λ i. equals_end p l || (not (has.normal_long i) && has.not-antipodal i && is.coplanar i && is.by-start i && is.by-end i && is.near-side i))
     ∙ or-true (equals_end p l)
 
 -- ---- legs without an inside

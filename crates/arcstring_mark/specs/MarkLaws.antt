@@ -31,7 +31,7 @@ pub record HasInside (l : Leg) : Type 0 where
 pub record Between (p : SphericalPoint) (l : Leg) : Type 0 where
   pub coplanar : lt (div binary64 (abs (xyz_dot p (xyz_cross l.from l.to))) (xyz_length (xyz_cross l.from l.to))) coplanar_tolerance ≡ true
   pub by-start : le (xyz_dot l.from l.to) (xyz_dot p l.from) ≡ true
-  pub by_end_lem : le (xyz_dot l.from l.to) (xyz_dot p l.to) ≡ true
+  pub by-end : le (xyz_dot l.from l.to) (xyz_dot p l.to) ≡ true
   pub near-side : le zero_float (xyz_dot p (xyz_add l.from l.to)) ≡ true
 
 -- A mark that is held and equals no end has all of them, and a mark that has all of them is held.

@@ -83,6 +83,11 @@ halved_divided a = rw (times_half a.x, times_half a.y, times_half a.z)
 
 -- ---- one midpoint after the other
 
+-- 2 by its bits
+pub two_bits : of_bits binary64 0x4000_0000_0000_0000 ≡ two
+unfolding of_bits
+two_bits = refl
+
 -- the first k legs and the one at k
 legs_split : (v : List Float) (k : ℕ) → legs_from v 0 (k + 1) ≡ legs_from v 0 k ++ legs_from v k (k + 1)
 unfolding legs_from
