@@ -2,3 +2,4 @@
 -- `specs/ReportLaws.antt`. The laws beside the functions of `inner` serve their proofs.
 pub mod PermilleLaws
 pub mod ReportLaws
+mod Quotients

@@ -1,36 +1,24 @@
 -- Permille is the nearest whole number, the larger of two that are as near, 0 without pairs, and at most 1,000, as `specs/PermilleLaws.antt` has it. Assumes
 -- nothing.
-use mathlib.Core.Path.{◌≡◌, refl, sym, ap, subst}
+use mathlib.Core.Path.{◌≡◌, refl, sym, subst}
 use mathlib.Core.Bool.{Bool, true, false}
 use Prim.Native.Nat.{ℕ, zero, suc, ◌+◌, ◌*◌, ◌/◌, ◌%◌, ◌≤◌, ◌<◌}
 use native.Mathlib.Nat.{le_antisymm, le_of_lt, lt_irrefl, mul-le-mul_right, mul_left_comm, suc-mul, mod-lt, div-add-mod', div-lt_iff_lt-mul}
 use native.Mathlib.Omega.{arith}
 use lib.Dec.{ltb}
-use borrow.Author.Tests.{eq-eqb, ne_eqb, ltb-true, ltb-false}
-use Rattle.arcstring_check.specs.Answer.{pick}
+use borrow.Author.Tests.{ltb-true, ltb-false}
 use Rattle.arcstring_tally.specs.declared.counts.Counts.{Counts}
 use Rattle.same_crossings.specs.CountLaws.{sum_of_counts}
 use Rattle.textform_report.specs.Permille.{nearest_quotient, permille}
+use Rattle.textform_report.proofs.Quotients.{half_more, quotient_by_none, quotient_by_some}
 use Rattle.textform_report.specs.PermilleLaws.{distance, NearestHalfUp, QuotientIsNearest, NearestIsOne, PermilleIsNearest, PermilleOfNone}
 use Rattle.textform_report.specs.PermilleLaws.{PermilleAtMost, KnownPermilles}
 
--- ---- the quotient: some known ones, and by whether there is anything to divide by
+-- ---- some known ones
 
 pub known_permilles : KnownPermilles
 unfolding nearest_quotient
 known_permilles = refl
-
--- n and half of d, twice: what is divided by twice d
-abbrev half_more : ℕ → ℕ → ℕ
-half_more n d = 2 * n + d
-
-quotient_by_none : (n d : ℕ) → d ≡ 0 → nearest_quotient n d ≡ 0
-unfolding nearest_quotient
-quotient_by_none n d h = ap (λ (t : Bool). pick t 0 (half_more n d / (2 * d))) (eq-eqb d 0 h)
-
-quotient_by_some : (n d : ℕ) → (d ≡ 0 → ⊥) → nearest_quotient n d ≡ half_more n d / (2 * d)
-unfolding nearest_quotient
-quotient_by_some n d h = ap (λ (t : Bool). pick t 0 (half_more n d / (2 * d))) (ne_eqb d 0 h)
 
 -- ---- it is the nearest
 
