@@ -1,4 +1,5 @@
 -- A leg's check, and the legs of a string by position: which one stands where, and those from a position on, one after the other. Assumes nothing.
+use Rattle.std.specs.Prelude.{Err}
 use mathlib.Core.Path.{◌≡◌, refl, sym, ap, ap₂, ◌∙◌}
 use mathlib.Core.Bool.{Bool, true, false}
 use mathlib.Core.List.{List, [], ◌∷◌, ◌++◌}
@@ -13,15 +14,22 @@ use borrow.Author.Tests.{ltb-true, ltb-false, lt-ltb, le-ltb}
 use Rattle.sphericalpoint.specs.declared.SphericalPoint.{SphericalPoint}
 use Rattle.arcstring.specs.Points.{points, point_at, no_point}
 use Rattle.arcstring.proofs.Flat.{length-points, point_at_lem}
-use Rattle.arcstring_check.specs.Answer.{first_of, pick}
+use Rattle.arcstring_check.specs.Answer.{pick, refusal_number}
+use Rattle.arcstring_check.proofs.Answers.{first_refused}
+use Rattle.arcstring_check.specs.declared.check.Refusal.{Refusal}
 use Rattle.arcstring_check.specs.Check.{point_check}
 use Rattle.arcstring.specs.Leg.{Leg, leg, leg_check, chain, legs, position_after, leg_at, legs_from, leg_count, leg_floats}
 
 -- a leg is checked at its start, then at its end
-pub leg_checked : (l : Leg) (u v : SphericalPoint) (m n r : ℕ) → u ≡ l.from → m ≡ point_check u → v ≡ l.to → n ≡ point_check v → r ≡ first_of m n
-    → r ≡ leg_check l
+pub leg_stopped : (l : Leg) (u : SphericalPoint) (e : Refusal) → u ≡ l.from → refusal_number e ≡ point_check u → refusal_number e ≡ leg_check l
 unfolding leg_check
-leg_checked l u v m n r h i j k e = rw (e, i, k, h, j)
+leg_stopped l u e h r =
+    let p : refusal_number e ≡ point_check l.from = r ∙ ap point_check h in
+    rw (← p) (first_refused (Err e) e (point_check l.to) refl)
+
+pub leg_went_on : (l : Leg) (u v : SphericalPoint) (n : ℕ) → u ≡ l.from → 0 ≡ point_check u → v ≡ l.to → n ≡ point_check v → n ≡ leg_check l
+unfolding leg_check
+leg_went_on l u v n h i j k = rw (← h, ← i, k, j)
 
 -- ---- a chain of points
 
@@ -114,7 +122,8 @@ module _ (v : List Float) (n : ℕ) (whole : length v ≡ 3 * n) where
           ∙ next-leg v n k l
       go len false e =
           let l : n ≤ k + 1 = ltb-false (k + 1) n e in
-          leg_to_first (points v) k d no_point (omega arith) (omega arith) ∙ ap₂ leg (point_at_lem v k no_point (omega arith)) (point_at_lem v 0 no_point (omega arith))
+          leg_to_first (points v) k d no_point (omega arith) (omega arith)
+          ∙ ap₂ leg (point_at_lem v k no_point (omega arith)) (point_at_lem v 0 no_point (omega arith))
           ∙ last_leg v n k l
 
   -- the legs from a position on begin with the leg there

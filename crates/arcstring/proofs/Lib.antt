@@ -8,4 +8,3 @@ pub mod Numbered
 pub mod Written
 pub mod WithoutBuoys
 pub mod Legs
-mod Bounds

@@ -5,45 +5,17 @@ use Prim.Native.Nat.{ℕ, zero, suc, ◌+◌, ◌-◌, ◌*◌, ◌≤◌, ◌<�
 use native.Mathlib.Omega.{arith}
 use native.Mathlib.Numerals.{add-one}
 use lib.ListN.{length, get_or, take, drop, set, length-append, length-drop, length-reverse, length-map}
-use lib.Seq.{length-take-le, take_all, take_at, drop_at, take-suc, drop-cons, drop-length, get_or-drop}
+use lib.Seq.{length-take-le, take_all, take_at, drop_at, take-suc, drop-cons, drop-length}
 use lib.Ieee.{Float}
 use Rattle.sphericalpoint.specs.declared.SphericalPoint.{SphericalPoint}
 use Rattle.arcstring.specs.Points.{points, flat, point_at, no_point}
 use Rattle.arcstring.specs.Positions.{positions_from}
 use Rattle.arcstring.specs.Splice.{splice}
 use Rattle.arcstring.proofs.Flat.{take_next, point_at_lem, point_at-drop, flat_append, length-flat, length-points, points-append}
-use Rattle.arcstring.proofs.Splices.{spliced_next, splice_front, splice_nothing, drop_past_splice, set_next, push_next}
+use Rattle.arcstring.proofs.Splices.{spliced_next, splice_front, splice_nothing, drop_past_splice, push_next}
 
 abbrev pub floats : SphericalPoint → List Float
 floats p = p.x ∷ p.y ∷ p.z ∷ []
-
--- ---- a run of vertices copied
-
-pub copy_step : (v : List Float) (from i : ℕ) (old out out' : List Float) (to : ℕ) (p : SphericalPoint) → 3 * to ≤ length old → 3 * (from + i) + 3 ≤ length v →
-    out ≡ splice old (3 * to) (take (3 * i) (drop (3 * from) v)) → p ≡ point_at v (from + i) → out' ≡ splice out (3 * (to + i)) (floats p) →
-    out' ≡ splice old (3 * to) (take (3 * (i + 1)) (drop (3 * from) v))
-copy_step v from i old out out' to p room known before read after =
-    let run = drop (3 * from) v in
-    let l : 3 * i + 3 ≤ length run = rw length-drop (omega arith) in
-    let n : length (take (3 * i) run) ≡ 3 * i = length-take-le (3 * i) run (omega arith) in
-    let more : take (3 * (i + 1)) run ≡ take (3 * i) run ++ floats p =
-    take_next run i l ∙ ap (λ (q : SphericalPoint). take (3 * i) run ++ flat (q ∷ [])) (point_at-drop v from i ∙ sym read) in
-    spliced_next old out out' (3 * to) (take (3 * i) run) (3 * (to + i)) (floats p) before after room (omega arith) ∙ ap (splice old (3 * to)) (sym more)
-
-pub copy_all : (v : List Float) (from count i : ℕ) (old out : List Float) (to : ℕ) → i ≡ count → out ≡ splice old (3 * to) (take (3 * i) (drop (3 * from) v)) →
-    out ≡ splice old (3 * to) (take (3 * count) (drop (3 * from) v))
-copy_all v from count i old out to end before = before ∙ ap (λ (k : ℕ). splice old (3 * to) (take (3 * k) (drop (3 * from) v))) end
-
--- ---- two runs, one after the other: a rotation
-
-pub rotate_all : (v : List Float) (n k : ℕ) (old mid last : List Float) → length v ≡ 3 * n → k ≤ n → mid ≡ splice old 0 (take (3 * (n - k)) (drop (3 * k) v)) →
-    last ≡ splice mid (3 * (n - k)) (take (3 * k) v) → last ≡ (drop (3 * k) v ++ take (3 * k) v) ++ drop (3 * n) old
-rotate_all v n k old mid last whole in_List first second =
-    let d : length (drop (3 * k) v) ≡ 3 * (n - k) = rw length-drop (omega arith) in
-    let t : length (take (3 * k) v) ≡ 3 * k = length-take-le (3 * k) v (omega arith) in
-    let tail : take (3 * (n - k)) (drop (3 * k) v) ≡ drop (3 * k) v = take_all (3 * (n - k)) (drop (3 * k) v) (omega arith) in
-    spliced_next old mid last 0 (drop (3 * k) v) (3 * (n - k)) (take (3 * k) v) (first ∙ ap (splice old 0) tail) second (omega arith) (omega arith)
-    ∙ splice_front old (3 * n) (drop (3 * k) v ++ take (3 * k) v) (length-append (drop (3 * k) v) (take (3 * k) v) ∙ omega arith)
 
 -- ---- the vertices backwards
 
@@ -132,36 +104,7 @@ module _ (f : SphericalPoint → SphericalPoint) where
       let d : drop (3 * m) mid ≡ drop (3 * m) old = ap (drop (3 * m)) before ∙ drop_at w (drop (3 * m) old) (3 * m) h in
       after ∙ ap (λ (l : List Float). flat (map f (points l)) ++ drop (3 * m) mid) t ∙ ap (λ (l : List Float). flat (map f (points w)) ++ l) d
 
--- ---- numbers: a run copied, two runs, backwards
-
-module _ {A : Type 0} (d : A) (xs : List A) where
-  take-one_more : (i : ℕ) → i < length xs → take (i + 1) xs ≡ take i xs ++ (get_or xs i d ∷ [])
-  take-one_more i h = rw add-one (take-suc xs i d h)
-
-  pub run_step : (from i : ℕ) (old out : List A) (to : ℕ) → from + i < length xs → to + i < length old → out ≡ splice old to (take i (drop from xs))
-      → set out (to + i) (get_or xs (from + i) d) ≡ splice old to (take (i + 1) (drop from xs))
-  run_step from i old out to known room before =
-      let run = drop from xs in
-      let l : i < length run = rw length-drop (omega arith) in
-      let more : take (i + 1) run ≡ take i run ++ (get_or xs (from + i) d ∷ []) =
-      rw add-one (take-suc run i d l) ∙ ap (λ (x : A). take i run ++ (x ∷ [])) (get_or-drop from xs i d) in
-      set_next old out to (take i run) i (get_or xs (from + i) d) before (length-take-le i run (omega arith)) room ∙ ap (splice old to) (sym more)
-
-  pub backwards_step : (i : ℕ) (old out : List A) → i < length xs → length xs ≤ length old → out ≡ splice old 0 (reverse (drop (length xs - i) xs))
-      → set out i (get_or xs (length xs - 1 - i) d) ≡ splice old 0 (reverse (drop (length xs - (i + 1)) xs))
-  backwards_step i old out h room before =
-      let done = reverse (drop (length xs - i) xs) in
-      let l : length done ≡ i = simp (length-reverse, length-drop) (omega arith) in
-      push_next old out done i (get_or xs (length xs - 1 - i) d) before l (omega arith) ∙ ap (splice old 0) (sym (last_next xs d (length xs) i refl h))
-
-  pub backwards_none : (old : List A) → old ≡ splice old 0 (reverse (drop (length xs - 0) xs))
-  backwards_none old = let e : length xs - 0 ≡ length xs = omega arith in rw (e, drop-length xs) (sym (splice_nothing old 0))
-
-  pub backwards_all : (i : ℕ) (old out : List A) → i ≡ length xs → out ≡ splice old 0 (reverse (drop (length xs - i) xs))
-      → out ≡ reverse xs ++ drop (length xs) old
-  backwards_all i old out end before =
-      let e : length xs - i ≡ 0 = omega arith in
-      before ∙ ap (λ (k : ℕ). splice old 0 (reverse (drop k xs))) e ∙ splice_front old (length xs) (reverse xs) (length-reverse xs)
+-- ---- items: two runs, one after the other
 
 pub rotate_run : {A : Type 0} (xs : List A) (k : ℕ) (old mid last : List A) → k ≤ length xs → mid ≡ splice old 0 (take (length xs - k) (drop k xs))
     → last ≡ splice mid (length xs - k) (take k xs)
@@ -176,6 +119,9 @@ rotate_run xs k old mid last within first second =
 
 -- ---- what stands at positions, gathered
 
+take-one_more : {A : Type 0} (d : A) (xs : List A) (i : ℕ) → i < length xs → take (i + 1) xs ≡ take i xs ++ (get_or xs i d ∷ [])
+take-one_more d xs i h = rw add-one (take-suc xs i d h)
+
 module _ {B : Type 0} (f : ℕ → B) (at : List ℕ) where
   one_more_lem : (i : ℕ) → i < length at → map f (take (i + 1) at) ≡ map f (take i at) ++ (f (get_or at i 0) ∷ [])
   one_more_lem i h = ap (map f) (take-one_more 0 at i h) ∙ map-append f (take i at) (get_or at i 0 ∷ [])
@@ -186,7 +132,8 @@ module _ {B : Type 0} (f : ℕ → B) (at : List ℕ) where
   pub gather_step : (i : ℕ) (old out : List B) → i < length at → length at ≤ length old → out ≡ splice old 0 (map f (take i at))
       → set out i (f (get_or at i 0)) ≡ splice old 0 (map f (take (i + 1) at))
   gather_step i old out h room before =
-      push_next old out (map f (take i at)) i (f (get_or at i 0)) before (gathered_length i (omega arith)) (omega arith) ∙ ap (splice old 0) (sym (one_more_lem i h))
+      push_next old out (map f (take i at)) i (f (get_or at i 0)) before (gathered_length i (omega arith)) (omega arith)
+      ∙ ap (splice old 0) (sym (one_more_lem i h))
 
   pub gather_all : (i : ℕ) (old out : List B) → i ≡ length at → out ≡ splice old 0 (map f (take i at)) → out ≡ map f at ++ drop (length at) old
   gather_all i old out end before =
@@ -209,7 +156,7 @@ module _ (f : ℕ → SphericalPoint) (at : List ℕ) where
       before ∙ ap (λ (l : List ℕ). splice old 0 (flat (map f l))) (take_all i at (omega arith))
       ∙ splice_front old (3 * length at) (flat (map f at)) (length-flat (map f at) ∙ ap (λ (n : ℕ). 3 * n) (length-map at f))
 
--- ---- positions written, and copied
+-- ---- positions written
 
 positions_next : (k i : ℕ) → positions_from k (i + 1) ≡ positions_from k i ++ ((k + i) ∷ [])
 positions_next k i = rw add-one (go k i)
@@ -224,7 +171,8 @@ pub length_positions : (k n : ℕ) → length (positions_from k n) ≡ n
 length_positions k zero = refl
 length_positions k (suc n) = ap suc (length_positions (suc k) n)
 
-pub position-step : (i : ℕ) (old out : List ℕ) → i < length old → out ≡ splice old 0 (positions_from 0 i) → set out i i ≡ splice old 0 (positions_from 0 (i + 1))
+pub position-step : (i : ℕ) (old out : List ℕ) → i < length old → out ≡ splice old 0 (positions_from 0 i)
+    → set out i i ≡ splice old 0 (positions_from 0 (i + 1))
 position-step i old out h before =
     let e : 0 + i ≡ i = omega arith in
     push_next old out (positions_from 0 i) i i before (length_positions 0 i) h
@@ -234,11 +182,3 @@ pub positions_all : (n i : ℕ) (old out : List ℕ) → i ≡ n → out ≡ spl
 positions_all n i old out end before =
     before ∙ ap (λ (j : ℕ). splice old 0 (positions_from 0 j)) end
     ∙ splice_front old n (positions_from 0 n) (length_positions 0 n)
-
-pub first_step : (xs : List ℕ) (i : ℕ) (old out : List ℕ) → i < length xs → i < length old → out ≡ splice old 0 (take i xs)
-    → set out i (get_or xs i 0) ≡ splice old 0 (take (i + 1) xs)
-first_step xs i old out known room before =
-    push_next old out (take i xs) i (get_or xs i 0) before (length-take-le i xs (omega arith)) room ∙ ap (splice old 0) (sym (take-one_more 0 xs i known))
-
-pub first_all : (xs : List ℕ) (n i : ℕ) (old out : List ℕ) → n ≤ length xs → i ≡ n → out ≡ splice old 0 (take i xs) → out ≡ take n xs ++ drop n old
-first_all xs n i old out known end before = before ∙ ap (λ (j : ℕ). splice old 0 (take j xs)) end ∙ splice_front old n (take n xs) (length-take-le n xs known)

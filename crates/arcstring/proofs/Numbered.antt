@@ -121,7 +121,8 @@ positions_from_lem v bs n k (suc m) whole same e =
     ap (λ (vs : List Vertex). vertex_at v bs k ∷ vs) (positions_from_lem v bs n (suc k) m whole same (omega arith))
     ∙ sym (ap₂ numbered (points-next n v k whole (omega arith) ∙ ap (λ (i : ℕ). point_at v k ∷ drop i (points v)) j) (drop-cons bs k 0 (omega arith)))
 
-pub all_positions : (v : List Float) (bs : List ℕ) (n : ℕ) → length v ≡ 3 * n → length bs ≡ n → map (vertex_at v bs) (positions_from 0 n) ≡ numbered (points v) bs
+pub all_positions : (v : List Float) (bs : List ℕ) (n : ℕ) → length v ≡ 3 * n → length bs ≡ n
+    → map (vertex_at v bs) (positions_from 0 n) ≡ numbered (points v) bs
 all_positions v bs n whole same = positions_from_lem v bs n 0 n whole same (omega arith)
 
 -- and for its point

@@ -1,9 +1,10 @@
 -- Laws of `splice`: its length, what it leaves, pieces written one after the other, and stores as a splice. Assumes nothing.
 use mathlib.Core.Path.{◌≡◌, sym, ap, ◌∙◌}
 use mathlib.Core.List.{List, [], ◌∷◌, ◌++◌, append_assoc}
-use Prim.Native.Nat.{ℕ, suc, ◌+◌, ◌≤◌, ◌<◌}
+use Prim.Native.Nat.{ℕ, suc, ◌+◌, ◌-◌, ◌≤◌, ◌<◌}
 use native.Mathlib.Numerals.{add-one}
 use native.Mathlib.Omega.{arith}
+use borrow.Rule.Slice.PartMut.{put_mid}
 use lib.ListN.{length, take, drop, set, length-append, length-drop, take-append-drop}
 use lib.Seq.{length-take-le, take_at, drop-append-add, drop-drop, set_split, sets-eq}
 use Rattle.arcstring.specs.Splice.{splice}
@@ -69,6 +70,16 @@ module _ {A : Type 0} where
       last ≡ splice old at (xs ++ ys)
   spliced_next old mid last at xs next ys first second h e =
       second ∙ ap (λ (l : List A). splice l next ys) first ∙ splice-next old at xs next ys h e
+
+  -- a part of a list copied from a part of another
+  pub copied-splice : (list old part : List A) (from count to : ℕ) → from + count ≤ length list → part ≡ take (from + count - from) (drop from list)
+      → put_mid to (to + count - to) old part ≡ splice old to (take count (drop from list))
+  unfolding splice
+  copied-splice list old part from count to h after =
+      let m : from + count - from ≡ count = omega arith in
+      let n : to + count - to ≡ count = omega arith in
+      let l : length (take count (drop from list)) ≡ count = length-take-le count (drop from list) (omega (arith, length-drop from list)) in
+      rw (after, m, n, l, drop-drop count to old)
 
   -- one store, and three in a row
   pub set-splice : (old : List A) (at : ℕ) (x : A) → at < length old → set old at x ≡ splice old at (x ∷ [])

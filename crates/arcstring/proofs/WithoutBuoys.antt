@@ -78,7 +78,8 @@ pub lent_alone : LentAlone
 unfolding lent into_rooms into_room
 lent_alone A v bs room buoy_room a same enough =
     ap₂ unless_refused (string_alone v bs same)
-    (then_same a (into_rooms room buoy_room) (into_room room) (λ xs. ap (λ (n : ℕ). unless_refused n (answered xs)) (rooms_alone (length xs) room buoy_room enough)))
+    (then_same a (into_rooms room buoy_room) (into_room room)
+    (λ xs. ap (λ (n : ℕ). unless_refused n (answered xs)) (rooms_alone (length xs) room buoy_room enough)))
 
 -- ---- an accepted string, without the numbers, and the numbers alone
 

@@ -1,4 +1,5 @@
 -- What a call that writes vertices and numbers answers and leaves in both buffers, by what its definition answers. Assumes nothing.
+use Rattle.std.specs.Prelude.{Result, Ok}
 use mathlib.Core.Path.{◌≡◌, refl, sym, ap, ap₂, ◌∙◌}
 use mathlib.Core.Bool.{Bool, true, false, ◌||◌}
 use mathlib.Core.List.{List, ◌++◌}
@@ -10,14 +11,13 @@ use borrow.Author.Tests.{ltb-false}
 use lib.Ieee.{Float}
 use Rattle.arcstring.specs.Work.{held_count}
 use Rattle.sphericalpoint.specs.declared.SphericalPoint.{SphericalPoint}
-use Rattle.arcstring_check.specs.declared.check.Written.{Written}
-use Rattle.arcstring_check.specs.declared.check.Written.TheVariants as W
 use Rattle.arcstring_check.specs.Answer.{Answer, refused, answered, unless_refused, first_of, number_if, leaves, pick}
 use Rattle.arcstring.specs.declared.inner.vertex.Vertex.{Vertex}
 use Rattle.arcstring.specs.Points.{places_of, buoys_of, place_of, flat}
 use Rattle.arcstring_check.specs.Check.{room_check, rooms_check, into_rooms}
 use Rattle.arcstring.specs.Written.{written_result, written_floats, without_buoys, written_buoys}
 use Rattle.arcstring.proofs.Flat.{length-flat}
+use Rattle.arcstring_check.specs.declared.check.Refusal.{Refusal}
 
 module _ (old : List Float) (old_buoys : List ℕ) (a : Answer (List Vertex)) where
   -- the answer, and what the buffers then hold
@@ -27,7 +27,10 @@ module _ (old : List Float) (old_buoys : List ℕ) (a : Answer (List Vertex)) wh
   pub left_refused : (n : ℕ) → refused n ≡ a → Leaves (refused n) old old_buoys
   left_refused n h = (
     ap written_result h,
-    (ap (λ (b : Answer (List Vertex)). leaves (written_floats (without_buoys b)) old) h, ap (λ (b : Answer (List Vertex)). leaves (written_buoys b) old_buoys) h),
+    (
+      ap (λ (b : Answer (List Vertex)). leaves (written_floats (without_buoys b)) old) h,
+      ap (λ (b : Answer (List Vertex)). leaves (written_buoys b) old_buoys) h,
+    ),
   )
 
   -- the points ps and the numbers bs were written
@@ -86,5 +89,5 @@ both_fit room buoy_room n = go (ltb room (3 * n)) (ltb buoy_room n) refl refl
     go false false p q h = (ltb-false room (3 * n) p, ltb-false buoy_room n q)
 
 -- how many are held, where the answer is known
-pub held_at_most : (w : Written) (n most : ℕ) → w ≡ W.Vertices n → held_count w ≤ most → n ≤ most
+pub held_at_most : (w : Result ℕ Refusal) (n most : ℕ) → w ≡ Ok n → held_count w ≤ most → n ≤ most
 held_at_most w n most told h = omega (arith, ap held_count told)

@@ -1,10 +1,9 @@
 -- Points as they stand at the start of a list that is worked on: for the contracts of inner functions. Definitions only.
-use Rattle.std.specs.Prelude.{List, ℕ, ◌*◌, take, Float}
+use Rattle.std.specs.Prelude.{List, ℕ, ◌*◌, take, Float, Result, Ok, Err}
 use Rattle.sphericalpoint.specs.declared.SphericalPoint.{SphericalPoint}
-use Rattle.arcstring_check.specs.declared.check.Written.{Written}
-use Rattle.arcstring_check.specs.declared.check.Written.TheVariants as W
 use Rattle.arcstring_check.specs.Answer.{Answer, refused, answered, refusal_number}
 use Rattle.arcstring.specs.Points.{points}
+use Rattle.arcstring_check.specs.declared.check.Refusal.{Refusal}
 
 -- how many points a short string has at most
 abbrev pub short_points : ℕ
@@ -15,11 +14,11 @@ unfoldable pub first_of_list : ℕ → List Float → List SphericalPoint
 first_of_list n v = points (take (3 * n) v)
 
 -- what a step answered, where it stands at the start of a list
-abbrev pub held : {A : Type 0} → Written → List A → Answer (List A)
-held (W.Vertices n) l = answered (take n l)
-held (W.Refused e) l = refused (refusal_number e)
+abbrev pub held : {A : Type 0} → Result ℕ Refusal → List A → Answer (List A)
+held (Ok n) l = answered (take n l)
+held (Err e) l = refused (refusal_number e)
 
 -- how many
-abbrev pub held_count : Written → ℕ
-held_count (W.Vertices n) = n
-held_count (W.Refused e) = 0
+abbrev pub held_count : Result ℕ Refusal → ℕ
+held_count (Ok n) = n
+held_count (Err e) = 0

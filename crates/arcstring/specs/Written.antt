@@ -1,15 +1,9 @@
 -- What a call that writes vertices, or the pieces of a string, answers, and what it writes. Definitions only.
 use Rattle.std.specs.Prelude.{List, [], ◌∷◌, ◌++◌, map, ℕ, ◌+◌, length, Float}
 use Rattle.sphericalpoint.specs.declared.SphericalPoint.{SphericalPoint}
-use Rattle.arcstring_check.specs.declared.check.Written.{Written}
-use Rattle.arcstring_check.specs.declared.check.Written.TheVariants as W
 use Rattle.arcstring.specs.declared.inner.vertex.Vertex.{Vertex}
-use Rattle.arcstring_check.specs.Answer.{Answer, refused, answered, map_answer, refusal_number}
+use Rattle.arcstring_check.specs.Answer.{Answer, map_answer}
 use Rattle.arcstring.specs.Points.{StringOf, places_of, buoys_of, flat}
-
-abbrev pub written_answer : Written → Answer ℕ
-written_answer (W.Vertices n) = answered n
-written_answer (W.Refused e) = refused (refusal_number e)
 
 -- how many vertices
 abbrev pub written_result : {A : Type 0} → Answer (List A) → Answer ℕ

@@ -1,6 +1,6 @@
 -- Two strings held against each other, as the comparisons of arcstring.rs do it: their boundaries, vertices along a string, `==`; and the checks of their
 -- lists. Definitions only.
-use Rattle.std.specs.Prelude.{Bool, true, false, ◌&&◌, List, [], ◌∷◌, ◌-◌, length, get_or, ltb, Float}
+use Rattle.std.specs.Prelude.{Bool, true, false, not, ◌&&◌, List, [], ◌∷◌, ◌-◌, length, get_or, ltb, Float}
 use Rattle.sphericalpoint.specs.declared.SphericalPoint.{SphericalPoint}
 use Rattle.sphericalpoint.specs.Point.{normalized_unless_short}
 use Rattle.arcstring_check.specs.Answer.{Answer, unless_refused, pick}
@@ -50,6 +50,10 @@ equal_strings a b = same_boundary a b && pick (ltb (length a.vertices) (length b
 
 unfoldable pub within_string : ArcString → ArcString → Bool
 within_string a b = all_along a.vertices b
+
+-- neither within the other
+abbrev pub apart : ArcString → ArcString → Bool
+apart a b = not (within_string a b) && not (within_string b a)
 
 -- ---- the checks
 

@@ -1,32 +1,27 @@
-// Two accepted strings held against each other: vertices along a string, ends near ends, and `==` of the two; and the checks of their lists.
-ghost use Rattle.std.specs.Prelude.{◌≡◌, ◌∷◌, []};
-ghost use Rattle.arcstring_check.specs.Answer.{first_of};
+// Two accepted strings held against each other: vertices along a string, ends near ends, and `==` of the two.
+ghost use Rattle.std.specs.Prelude.{◌≡◌, ◌∷◌, [], ◌≤◌};
 ghost use Rattle.arcstring.specs.Points.{points};
-ghost use Rattle.arcstring_check.specs.Check.{check_number, stored_check};
-ghost use Rattle.arcstring_along.specs.OnString.{near_some, stored};
-ghost use Rattle.arcstring_against.specs.Against.{first_end, last_end, boundary, boundaries_meet, all_near, all_along, equal_strings};
+ghost use Rattle.arcstring_along.specs.OnString.{near_some, string_of};
+ghost use Rattle.arcstring_against.specs.Against.{first_end, last_end, boundary, all_near, same_boundary, all_along, each_along, apart, equal_strings};
 
-use arcstring::inner::vertex;
-use arcstring_along::inner::along;
-use arcstring_check::check::Checked;
-use arcstring_check::inner::checks;
+use arcstring::inner::vertex::Vertices;
+use arcstring_along::inner::along::along_string;
+use arcstring_along::inner::stored::Stored;
 use arcstring_near::inner::is_near;
-use sphericalpoint::SphericalPoint;
+use sphericalpoint::{SphericalPoint, normalize_unless_short};
 
-// Whether every vertex of a list is along a string.
-pub fn all_along(a: &[f64], v: &[f64], near: &[f64], closed: bool) -> bool
-    requires { (stored_check a.now ≡ 0) × (stored_check v.now ≡ 0) × (stored_check near.now ≡ 0) }
-    ensures { result ≡ all_along (points a.now) (stored v.now near.now closed) }
+// Whether every one of these vertices is along a string.
+pub fn all_along(a: Vertices, s: Stored) -> bool
+    ensures { result ≡ all_along (points a.entry.v.now) (string_of s.entry) }
 {
-    let n = a.len() / 3;
-    let mut k = 0;
-    while k < n {
-        if !along::along_string(vertex::vertex_at(a, k), v, near, closed) {
-            return false;
-        }
-        k += 1;
-    }
-    true
+    (0..a.n).all(|k| along_string(a.at(k), s))
+}
+
+// Whether neither of two strings is within the other.
+pub fn apart(a: Stored, b: Stored) -> bool
+    ensures { result ≡ apart (string_of a.entry) (string_of b.entry) }
+{
+    !all_along(a.vertices(), b) && !all_along(b.vertices(), a)
 }
 
 // Whether a point is near one of two.
@@ -37,25 +32,25 @@ fn near_either(p: SphericalPoint, first: SphericalPoint, last: SphericalPoint) -
 }
 
 // The first vertex, normalised once more.
-fn first_end(v: &[f64]) -> SphericalPoint
-    requires { stored_check v.now ≡ 0 }
-    ensures { result ≡ first_end (points v.now) }
+fn first_end(string: Vertices) -> SphericalPoint
+    requires { 1 ≤ string.n }
+    ensures { result ≡ first_end (points string.entry.v.now) }
 {
-    sphericalpoint::normalize_unless_short(vertex::vertex_at(v, 0))
+    normalize_unless_short(string.at(0))
 }
 
 // The last vertex, normalised once more.
-fn last_end(v: &[f64]) -> SphericalPoint
-    requires { stored_check v.now ≡ 0 }
-    ensures { result ≡ last_end (points v.now) }
+fn last_end(string: Vertices) -> SphericalPoint
+    requires { 1 ≤ string.n }
+    ensures { result ≡ last_end (points string.entry.v.now) }
 {
-    sphericalpoint::normalize_unless_short(vertex::vertex_at(v, v.len() / 3 - 1))
+    normalize_unless_short(string.at(string.n - 1))
 }
 
 // Whether each end of the left is near an end of the right.
-fn ends_near(a: &[f64], b: &[f64]) -> bool
-    requires { (stored_check a.now ≡ 0) × (stored_check b.now ≡ 0) }
-    ensures { result ≡ all_near (boundary (points a.now)) (boundary (points b.now)) }
+fn ends_near(a: Vertices, b: Vertices) -> bool
+    requires { (1 ≤ a.n) × (1 ≤ b.n) }
+    ensures { result ≡ all_near (boundary (points a.entry.v.now)) (boundary (points b.entry.v.now)) }
 {
     let first = first_end(b);
     let last = last_end(b);
@@ -63,60 +58,35 @@ fn ends_near(a: &[f64], b: &[f64]) -> bool
 }
 
 // Both closed, or both open with each end of the left near an end of the right.
-fn same_boundary(a: &[f64], a_closed: bool, b: &[f64], b_closed: bool) -> bool
-    requires { (stored_check a.now ≡ 0) × (stored_check b.now ≡ 0) }
-    ensures { result ≡ boundaries_meet a_closed b_closed (all_near (boundary (points a.now)) (boundary (points b.now))) }
+fn same_boundary(a: Stored, b: Stored) -> bool
+    ensures { result ≡ same_boundary (string_of a.entry) (string_of b.entry) }
 {
-    if a_closed & b_closed {
+    if a.closed & b.closed {
         return true;
     }
-    if a_closed | b_closed {
+    if a.closed | b.closed {
         return false;
     }
-    ends_near(a, b)
+    ends_near(a.vertices(), b.vertices())
 }
 
-// The checks of three lists, in turn.
-pub fn check_three(a: &[f64], b: &[f64], c: &[f64]) -> Checked
-    ensures { check_number result ≡ first_of (stored_check a.now) (first_of (stored_check b.now) (stored_check c.now)) }
+// Every vertex of the longer along the shorter, and of the shorter along the longer.
+fn each_along(shorter: Stored, longer: Stored) -> bool
+    ensures { result ≡ each_along (string_of shorter.entry) (string_of longer.entry) }
 {
-    checks::first_of(
-        checks::check_stored(a),
-        checks::first_of(checks::check_stored(b), checks::check_stored(c)),
-    )
-}
-
-// The checks of two strings' lists, in turn.
-pub fn check_two(a: &[f64], a_near: &[f64], b: &[f64], b_near: &[f64]) -> Checked
-    ensures { check_number result ≡ first_of (stored_check a.now)
-        (first_of (stored_check a_near.now) (first_of (stored_check b.now) (stored_check b_near.now))) }
-{
-    checks::first_of(checks::check_stored(a), check_three(a_near, b, b_near))
+    all_along(longer.vertices(), shorter) && all_along(shorter.vertices(), longer)
 }
 
 // `==` of two accepted strings.
-pub fn equal_strings(
-    a: &[f64],
-    a_near: &[f64],
-    a_closed: bool,
-    b: &[f64],
-    b_near: &[f64],
-    b_closed: bool,
-) -> bool
-    requires { (stored_check a.now ≡ 0) × (stored_check a_near.now ≡ 0) × (stored_check b.now ≡ 0) × (stored_check b_near.now ≡ 0) }
-    ensures { result ≡ equal_strings (stored a.now a_near.now a_closed) (stored b.now b_near.now b_closed) }
+pub fn equal_strings(a: Stored, b: Stored) -> bool
+    ensures { result ≡ equal_strings (string_of a.entry) (string_of b.entry) }
 {
-    if !same_boundary(a, a_closed, b, b_closed) {
+    if !same_boundary(a, b) {
         return false;
     }
-    if a.len() / 3 < b.len() / 3 {
-        if !all_along(b, a, a_near, a_closed) {
-            return false;
-        }
-        return all_along(a, b, b_near, b_closed);
+    if a.v.len() < b.v.len() {
+        each_along(a, b)
+    } else {
+        each_along(b, a)
     }
-    if !all_along(a, b, b_near, b_closed) {
-        return false;
-    }
-    all_along(b, a, a_near, a_closed)
 }

@@ -1,5 +1,7 @@
 -- A walk over a list to the first element that passes a test: where it stands, and whether there is one, which another order of the list does not change. One
 -- law for every test, of points and of legs. Assumes nothing.
+use Rattle.std.specs.Prelude as Std
+use Rattle.std.specs.Prelude.{Some, None}
 use mathlib.Core.Path.{◌≡◌, refl, sym, ap, ap₂, ◌∙◌}
 use mathlib.Core.Bool.{Bool, true, false, ◌||◌, or_assoc, or_comm}
 use mathlib.Core.List.{List, [], ◌∷◌, map, Permᴰ}
@@ -7,10 +9,8 @@ use mathlib.Core.Option.{Option, none, some}
 use Prim.Native.Nat.{ℕ, ◌+◌}
 use native.Mathlib.Nat.{add-zero}
 use native.Mathlib.Omega.{arith}
-use Rattle.arcstring_check.specs.Answer.{pick}
-use Rattle.arcstring_along.specs.declared.inner.along.Found.{Found}
-use Rattle.arcstring_along.specs.declared.inner.along.Found.TheVariants.{At, Nothing}
-use Rattle.arcstring_along.specs.OnString.{next, found_at, is_some}
+use Rattle.arcstring_check.specs.Answer.{pick, option_of}
+use Rattle.arcstring_along.specs.OnString.{next, is_some}
 
 -- a position found in the part from k on, as one in the whole
 abbrev pub from : ℕ → Option ℕ → Option ℕ
@@ -79,9 +79,6 @@ module _ {A : Type 0} {test : A → Bool} {first : List A → Option ℕ} (finds
 
 -- ---- the verdict
 
-module _ (f : Found) (o : Option ℕ) (found : found_at f ≡ o) where
-  pub found_some : (k : ℕ) → f ≡ At k → true ≡ is_some o
-  found_some k h = ap (λ (g : Found). is_some (found_at g)) (sym h) ∙ ap is_some found
-
-  pub found_nothing : f ≡ Nothing → false ≡ is_some o
-  found_nothing h = ap (λ (g : Found). is_some (found_at g)) (sym h) ∙ ap is_some found
+pub found_some : (f : Std.Option ℕ) (o : Option ℕ) → option_of f ≡ o → Std.is_some f ≡ is_some o
+found_some (Some k) o h = ap is_some h
+found_some None o h = ap is_some h

@@ -5,12 +5,11 @@ use Rattle.std.proofs.Math.Option.{Option, none, some}
 use Rattle.sphericalpoint.specs.declared.SphericalPoint.{SphericalPoint}
 use Rattle.sphericalpoint_coplanar.specs.Coplanar.{xyzs_coplanar}
 use Rattle.arcstring_near.specs.Near.{is_near}
+use Rattle.arcstring_along.specs.declared.inner.stored.Stored.{Stored}
 use Rattle.arcstring_check.specs.Answer.{Answer, answered, unless_refused, pick}
 use Rattle.arcstring.specs.Points.{ArcString, points}
 use Rattle.arcstring_check.specs.Check.{stored_check, point_check}
 use Rattle.arcstring.specs.Leg.{Leg, legs}
-use Rattle.arcstring_along.specs.declared.inner.along.Found.{Found}
-use Rattle.arcstring_along.specs.declared.inner.along.Found.TheVariants.{At, Nothing}
 
 abbrev pub next : Option ℕ → Option ℕ
 next none = none
@@ -20,11 +19,6 @@ next (some k) = some (suc k)
 unfoldable pub first_near : SphericalPoint → List SphericalPoint → Option ℕ
 first_near p [] = none
 first_near p (e ∷ es) = pick (is_near p e) (some 0) (next (first_near p es))
-
--- what the walk over the near list answers
-abbrev pub found_at : Found → Option ℕ
-found_at (At k) = some k
-found_at Nothing = none
 
 abbrev pub is_some : Option ℕ → Bool
 is_some none = false
@@ -49,6 +43,9 @@ along_string p s = near_some p s.near || along_some_leg p (legs s.vertices s.clo
 -- a string as it is handed in: its vertices, its near list, its flag
 abbrev pub stored : List Float → List Float → Bool → ArcString
 stored v near closed = record { vertices = points v; near = points near; closed = closed }
+
+abbrev pub string_of : Stored → ArcString
+string_of s = stored s.v.now s.near.now s.closed
 
 unfoldable pub along : SphericalPoint → List Float → List Float → Bool → Answer Bool
 along p v near closed =

@@ -1,30 +1,27 @@
 -- Laws of building: the ends of a string, its vertices and how many there are, and what is written, from the checks. Assumes nothing.
 use mathlib.Core.Path.{◌≡◌, refl, sym, ap, ap₂, ◌∙◌}
-use mathlib.Core.Bool.{Bool, true, false, ◌||◌}
+use mathlib.Core.Bool.{Bool, true, false}
 use mathlib.Core.List.{List, [], ◌∷◌, ◌++◌, map}
 use Prim.Native.Nat.{ℕ, zero, suc, ◌-◌, ◌*◌, ◌/◌, ◌≤◌, ◌<◌}
 use native.Mathlib.Omega.{arith}
 use lib.ListN.{length, get_or, take, drop, length-map}
 use lib.Seq.{length-take-le, take_all, get_or-take}
-use lib.Dec.{ltb}
 use lib.Ieee.{Float}
+use mir.Val.{bool_byte}
 use Rattle.sphericalpoint.specs.declared.SphericalPoint.{SphericalPoint}
 use Rattle.sphericalpoint.specs.Vector.{xyz_eq}
 use Rattle.sphericalpoint.specs.Point.{normalized_unless_short}
 use Rattle.arcstring_check.specs.declared.check.Refusal.{Refusal}
-use Rattle.arcstring_check.specs.declared.check.Checked.{Checked}
-use Rattle.arcstring_check.specs.declared.check.Checked.TheVariants.{Accepted, Refused}
 use Rattle.arcstring_check.specs.Answer.{Answer, refused, answered, unless_refused, map_answer, leaves, pick, refusal_number}
-use Rattle.arcstring_check.specs.Check.{check_number, build_check, building_check, rooms_check}
+use Rattle.arcstring_check.specs.Check.{build_check, building_check, rooms_check}
 use Rattle.arcstring.specs.declared.inner.vertex.Vertex.{Vertex}
 use Rattle.arcstring.specs.Points.{StringOf, numbered, place_of, places_of, buoys_of, points, flat, point_at, no_point}
 use Rattle.arcstring.specs.Splice.{splice}
 use Rattle.arcstring_build.specs.Build.{normalized_all, ends_meet, built_vertices, built_string, built_numbered, build_into, build, build_flagged, flagged}
 use Rattle.arcstring_build.specs.Build.{built_result, built_floats, built_buoys}
 use Rattle.arcstring.proofs.Flat.{point_at_lem, length-points, count_points, points-flat, take-points, length-flat}
-use Rattle.arcstring_check.proofs.Answers.{answer_refused, answer_accepted}
+use Rattle.arcstring_check.proofs.Answers.{stopped, went_on}
 use Rattle.arcstring_check.proofs.Checks.{build_whole, build_two, building_passed, building_buoys}
-use Rattle.arcstring.proofs.Written.{rooms_short, rooms_fit}
 use Rattle.arcstring.proofs.Splices.{splice_front}
 use Rattle.arcstring.proofs.Moves.{length_mapped, map_written}
 use Rattle.arcstring.proofs.Numbered.{all_places, all_buoys}
@@ -57,8 +54,8 @@ ends_of v n a b p q r whole some ha hp hb hq hr = cc (ends_at v n whole some)
 -- the first m points normalised twice
 pub closed_of : (v : List Float) (m : ℕ) (old mid last : List Float) → 3 * m ≤ length v → mid ≡ flat (normalized_all (points (take (3 * m) v))) ++ drop
     (3 * m) old →
-    last ≡ flat (normalized_all (points (take (3 * m) mid))) ++ drop (3 * m) mid → last ≡ flat (normalized_all (normalized_all (points (take (3 * m) v)))) ++ drop
-    (3 * m) old
+    last ≡ flat (normalized_all (points (take (3 * m) mid))) ++ drop (3 * m) mid
+    → last ≡ flat (normalized_all (normalized_all (points (take (3 * m) v)))) ++ drop (3 * m) old
 closed_of v m old mid last known once after =
     let ps = normalized_all (points (take (3 * m) v)) in
     map_written normalized_unless_short m old mid last (flat ps) (length_mapped normalized_unless_short m v known) once after
@@ -143,10 +140,35 @@ pub closed_flag : (ps : List SphericalPoint) → ends_meet (normalized_all ps) �
 unfolding built_string
 closed_flag ps = refl
 
+-- one point is dropped where its ends meet
+pub kept_few : (n : ℕ) (closed : Bool) → 1 ≤ n → bool_byte closed ≤ n
+kept_few n true some = some
+kept_few n false some = omega arith
+
+-- the built string, by whether its ends meet
+module _ (v : List Float) (n m : ℕ) (closed : Bool) (whole : length v ≡ 3 * n) (meet : closed ≡ ends_meet (normalized_all (points v)))
+    (kept : m ≡ n - bool_byte closed) where
+  pub kept_length : length (built_string (points v)).vertices ≡ m
+  kept_length = go closed meet kept
+    where
+      go : (b : Bool) → b ≡ ends_meet (normalized_all (points v)) → m ≡ n - bool_byte b → length (built_string (points v)).vertices ≡ m
+      go true e k = closed_length v n whole (sym e) ∙ sym k
+      go false e k = open_length v n whole (sym e) ∙ omega arith
+
+  pub kept_closed : closed ≡ true → normalized_all (normalized_all (points (take (3 * m) v))) ≡ (built_string (points v)).vertices
+  kept_closed h =
+      ap (λ (j : ℕ). normalized_all (normalized_all (points (take (3 * j) v)))) (kept ∙ ap (λ (b : Bool). n - bool_byte b) h)
+      ∙ closed_vertices v n whole (sym meet ∙ h)
+
+  pub kept_open : closed ≡ false → normalized_all (points (take (3 * m) v)) ≡ (built_string (points v)).vertices
+  kept_open h =
+      let j : n - bool_byte false ≡ n = omega arith in
+      ap (λ (i : ℕ). normalized_all (points (take (3 * i) v))) (kept ∙ ap (λ (b : Bool). n - bool_byte b) h ∙ j)
+      ∙ open_vertices v n whole (sym meet ∙ h)
+
 -- ---- what a build answers, and the buffers
 
-module _ (k : Checked) (s : StringOf Vertex) (v : List Float) (buoys : List ℕ) (old : List Float) (old_buoys : List ℕ)
-    (number : check_number k ≡ building_check v buoys) where
+module _ (s : StringOf Vertex) (v : List Float) (buoys : List ℕ) (old : List Float) (old_buoys : List ℕ) where
   abbrev into : Answer (StringOf Vertex)
   into = build_into v buoys (length old) (length old_buoys) s
 
@@ -160,49 +182,42 @@ module _ (k : Checked) (s : StringOf Vertex) (v : List Float) (buoys : List ℕ)
     (ap (λ (b : Answer (StringOf Vertex)). leaves (built_floats b) old) r, ap (λ (b : Answer (StringOf Vertex)). leaves (built_buoys b) old_buoys) r),
   )
 
-  pub refused_build : (e : Refusal) → k ≡ Refused e → Builds (refused (refusal_number e)) old old_buoys
+  pub refused_build : (e : Refusal) → refusal_number e ≡ building_check v buoys → Builds (refused (refusal_number e)) old old_buoys
   unfolding build_into
-  refused_build e told = by_answer (refused (refusal_number e)) (answer_refused k e (building_check v buoys) _ told number)
+  refused_build e number = by_answer (refused (refusal_number e)) (stopped e (building_check v buoys) _ number)
 
-  module _ (told : k ≡ Accepted) (m : ℕ) (long : length s.vertices ≡ m) where
-    by_rooms : (n : ℕ) → rooms_check m (length old) (length old_buoys) ≡ n → unless_refused n (answered s) ≡ into
+  module _ (passed : 0 ≡ building_check v buoys) (m : ℕ) (long : length s.vertices ≡ m) where
+    by_rooms : (a : Answer (StringOf Vertex)) → a ≡ unless_refused (rooms_check m (length old) (length old_buoys)) (answered s) → a ≡ into
     unfolding build_into
-    by_rooms n h =
-        ap (λ (j : ℕ). unless_refused j (answered s)) (sym h ∙ ap (λ (j : ℕ). rooms_check j (length old) (length old_buoys)) (sym long))
-        ∙ answer_accepted k (building_check v buoys) _ told number
+    by_rooms a h =
+        h ∙ ap (λ (j : ℕ). unless_refused (rooms_check j (length old) (length old_buoys)) (answered s)) (sym long)
+        ∙ went_on (building_check v buoys) _ passed
 
-    pub cramped_build : ltb (length old) (3 * m) || ltb (length old_buoys) m ≡ true → Builds (refused 7) old old_buoys
-    cramped_build h = by_answer (refused 7) (by_rooms 7 (rooms_short (length old) (length old_buoys) m h))
+    cramped_build : (e : Refusal) → refusal_number e ≡ rooms_check m (length old) (length old_buoys) → Builds (refused (refusal_number e)) old old_buoys
+    cramped_build e h = by_answer (refused (refusal_number e)) (by_rooms _ (stopped e (rooms_check m (length old) (length old_buoys)) _ h))
 
-    pub written_build : (closed : Bool) (ps : List SphericalPoint) (bs : List ℕ) (out : List Float) (out_buoys : List ℕ)
-        → ltb (length old) (3 * m) || ltb (length old_buoys) m ≡ false
+    written_build : (closed : Bool) (ps : List SphericalPoint) (bs : List ℕ) (out : List Float) (out_buoys : List ℕ)
+        → 0 ≡ rooms_check m (length old) (length old_buoys)
         → closed ≡ s.closed → ps ≡ places_of s.vertices → bs ≡ buoys_of s.vertices → out ≡ flat ps ++ drop (3 * m) old → out_buoys ≡ bs ++ drop m old_buoys
         → Builds (answered (m, closed)) out out_buoys
     written_build closed ps bs out out_buoys h flag places numbers w u =
-        let done = by_answer (answered s) (by_rooms 0 (rooms_fit (length old) (length old_buoys) m h)) in
+        let done = by_answer (answered s) (by_rooms _ (went_on (rooms_check m (length old) (length old_buoys)) _ h)) in
         let n : 3 * m ≡ length (flat (places_of s.vertices)) = omega (arith, length-flat (places_of s.vertices), length-map s.vertices place_of) in
         let j : m ≡ length (buoys_of s.vertices) = sym (length-map s.vertices (λ (x : Vertex). x.buoy) ∙ long) in (
           (λ i. answered (sym long i, flag i)) ∙ done.0,
           (w ∙ (λ i. flat (places i) ++ drop (n i) old) ∙ done.1.0, u ∙ (λ i. numbers i ++ drop (j i) old_buoys) ∙ done.1.1),
         )
 
--- the string that an accepted list makes: m vertices, whose points are ps
-module _ (k : Checked) (v : List Float) (buoys : List ℕ) (old : List Float) (old_buoys : List ℕ)
-    (number : check_number k ≡ building_check v buoys) (told : k ≡ Accepted) where
-  abbrev made : StringOf Vertex
-  made = built_numbered (numbered (points v) buoys)
-
-  accepted : building_check v buoys ≡ 0
-  accepted = sym number ∙ ap check_number told
-
+-- an accepted list
+module _ (v : List Float) (buoys : List ℕ) (passed : 0 ≡ building_check v buoys) where
   pub accepted_whole : length v ≡ 3 * (length v / 3)
-  accepted_whole = (build_whole v (building_passed v buoys accepted)).triples
+  accepted_whole = (build_whole v (building_passed v buoys (sym passed))).triples
 
   pub accepted_two : 2 ≤ length v / 3
-  accepted_two = build_two v (building_passed v buoys accepted)
+  accepted_two = build_two v (building_passed v buoys (sym passed))
 
   pub accepted_buoys : length buoys ≡ length v / 3
-  accepted_buoys = building_buoys v buoys accepted
+  accepted_buoys = building_buoys v buoys (sym passed)
 
   as_many : length buoys ≡ length (points v)
   as_many = accepted_buoys ∙ sym (count_points v)
@@ -210,26 +225,31 @@ module _ (k : Checked) (v : List Float) (buoys : List ℕ) (old : List Float) (o
   places : places_of (numbered (points v) buoys) ≡ points v
   places = all_places (points v) buoys as_many
 
-  module _ (m : ℕ) (ps : List SphericalPoint) (same : ps ≡ (built_string (points v)).vertices) (count : length (built_string (points v)).vertices ≡ m) where
+  abbrev made : StringOf Vertex
+  made = built_numbered (numbered (points v) buoys)
+
+  -- the string that it makes, of m vertices
+  module _ (old : List Float) (old_buoys : List ℕ) (m : ℕ) (count : length (built_string (points v)).vertices ≡ m) where
     long : length made.vertices ≡ m
     long = built_count_same (numbered (points v) buoys) ∙ ap (λ (qs : List SphericalPoint). length (built_string qs).vertices) places ∙ count
 
-    pub build_short : ltb (length old) (3 * m) || ltb (length old_buoys) m ≡ true → Builds k made v buoys old old_buoys number (refused 7) old old_buoys
-    build_short = cramped_build k made v buoys old old_buoys number told m long
+    pub build_short : (e : Refusal) → refusal_number e ≡ rooms_check m (length old) (length old_buoys)
+        → Builds made v buoys old old_buoys (refused (refusal_number e)) old old_buoys
+    build_short = cramped_build made v buoys old old_buoys passed m long
 
-    pub build_done : (closed : Bool) (out : List Float) (out_buoys : List ℕ) → ltb (length old) (3 * m) || ltb (length old_buoys) m ≡ false
-        → closed ≡ (built_string (points v)).closed → m ≤ length buoys
-        → out ≡ flat ps ++ drop (3 * m) old → out_buoys ≡ splice old_buoys 0 (take m (drop 0 buoys))
-        → Builds k made v buoys old old_buoys number (answered (m, closed)) out out_buoys
+    pub build_done : (closed : Bool) (out : List Float) (out_buoys : List ℕ) → 0 ≡ rooms_check m (length old) (length old_buoys)
+        → closed ≡ ends_meet (normalized_all (points v)) → m ≤ length buoys
+        → out ≡ flat (built_string (points v)).vertices ++ drop (3 * m) old → out_buoys ≡ splice old_buoys 0 (take m (drop 0 buoys))
+        → Builds made v buoys old old_buoys (answered (m, closed)) out out_buoys
     unfolding built_numbered
     build_done closed out out_buoys room flag few w u =
         let numbers : take m buoys ≡ buoys_of made.vertices =
         sym (built_buoys_lem (numbered (points v) buoys)
         ∙ ap₂ (λ (qs : List SphericalPoint) (bs : List ℕ). take (length (built_string qs).vertices) bs) places (all_buoys (points v) buoys as_many)
         ∙ ap (λ (n : ℕ). take n buoys) count) in
-        written_build k made v buoys old old_buoys number told m long closed ps (take m buoys) out out_buoys room
-        (flag ∙ ap (λ (qs : List SphericalPoint). (built_string qs).closed) (sym places))
-        (same ∙ sym (built_places (numbered (points v) buoys) ∙ ap (λ (qs : List SphericalPoint). (built_string qs).vertices) places))
+        written_build made v buoys old old_buoys passed m long closed (built_string (points v)).vertices (take m buoys) out out_buoys room
+        (flag ∙ closed_flag (points v) ∙ ap (λ (qs : List SphericalPoint). (built_string qs).closed) (sym places))
+        (sym (built_places (numbered (points v) buoys) ∙ ap (λ (qs : List SphericalPoint). (built_string qs).vertices) places))
         numbers w (u ∙ splice_front old_buoys m (take m buoys) (length-take-le m buoys few))
 
 -- ---- the same with a given flag

@@ -15,8 +15,8 @@ use Rattle.arcstring.specs.declared.inner.vertex.Vertex.{Vertex}
 use Rattle.arcstring_check.specs.Answer.{answered, unless_refused, map_answer, first_of, number_if}
 use Rattle.arcstring.specs.Points.{StringOf, ArcString, numbered, place_of, places_of, buoys_of, unnumbered, points}
 use Rattle.arcstring_check.specs.Check.{list_check, building_check, rooms_check}
-use Rattle.arcstring_build.specs.Build.{normalized_all, ends_meet, built_of, built_vertices, built_string, normalized_vertex, built_numbered, flagged, build_into}
-use Rattle.arcstring_build.specs.Build.{build, build_flagged}
+use Rattle.arcstring_build.specs.Build.{normalized_all, ends_meet, built_of, built_vertices, built_string, normalized_vertex, built_numbered}
+use Rattle.arcstring_build.specs.Build.{flagged, build_into, build, build_flagged}
 use Rattle.arcstring_build.specs.BuoyLaws.{BuildWithout, FlaggedWithout, BuildAlone, BuiltBuoys, BuildBuoys}
 use Rattle.arcstring_check.proofs.Answers.{map_unless, where_passed}
 use Rattle.arcstring_check.proofs.Checks.{building_alone, building_buoys}
@@ -60,7 +60,8 @@ same_buoys : (vs : List Vertex) → buoys_of (map normalized_vertex vs) ≡ buoy
 same_buoys [] = refl
 same_buoys (x ∷ vs) = ap (λ (bs : List ℕ). x.buoy ∷ bs) (same_buoys vs)
 
-first_buoys : (meet : Bool) (vs : List Vertex) → buoys_of (built_of normalized_vertex meet vs) ≡ take (length (built_of normalized_vertex meet vs)) (buoys_of vs)
+first_buoys : (meet : Bool) (vs : List Vertex)
+    → buoys_of (built_of normalized_vertex meet vs) ≡ take (length (built_of normalized_vertex meet vs)) (buoys_of vs)
 first_buoys false vs =
     same_buoys vs
     ∙ sym (take_all (length (map normalized_vertex vs)) (buoys_of vs) (omega (arith, length-map vs normalized_vertex, length-map vs (λ (x : Vertex). x.buoy))))

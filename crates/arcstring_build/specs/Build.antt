@@ -3,9 +3,7 @@ use Rattle.std.specs.Prelude.{Bool, List, map, ℕ, ◌-◌, length, get_or, tak
 use Rattle.sphericalpoint.specs.declared.SphericalPoint.{SphericalPoint}
 use Rattle.sphericalpoint.specs.Vector.{xyz_eq}
 use Rattle.sphericalpoint.specs.Point.{normalized_unless_short}
-use Rattle.arcstring_build.specs.declared.build.Built.{Built}
-use Rattle.arcstring_build.specs.declared.build.Built.TheVariants as B
-use Rattle.arcstring_check.specs.Answer.{Answer, refused, answered, unless_refused, map_answer, pick, refusal_number}
+use Rattle.arcstring_check.specs.Answer.{Answer, answered, unless_refused, map_answer, pick}
 use Rattle.arcstring.specs.declared.inner.vertex.Vertex.{Vertex}
 use Rattle.arcstring.specs.Points.{numbered, places_of, buoys_of, StringOf, ArcString, points, flat, no_point}
 use Rattle.arcstring_check.specs.Check.{building_check, rooms_check}
@@ -62,10 +60,6 @@ unfoldable pub build_flagged : List Float → List ℕ → Bool → ℕ → ℕ 
 build_flagged v buoys flag room buoy_room = build_into v buoys room buoy_room (flagged flag (built_numbered (numbered (points v) buoys)))
 
 -- ---- what is answered, and what is written
-
-abbrev pub built_answer : Built → Answer (ℕ × Bool)
-built_answer (B.String n closed) = answered (n, closed)
-built_answer (B.Refused e) = refused (refusal_number e)
 
 -- how many vertices, and the flag
 abbrev pub built_result : {A : Type 0} → Answer (StringOf A) → Answer (ℕ × Bool)

@@ -28,7 +28,8 @@ pub record Stored (s : ArcString) : Type 0 where
 -- Whatever is built is accepted,
 abbrev pub BuiltAccepted : Type 0
 BuiltAccepted =
-    (v : List Float) → AllF64 v → (buoys : List ℕ) (room buoy_room : ℕ) (s : StringOf Vertex) → build v buoys room buoy_room ≡ answered s → Stored (unnumbered s)
+    (v : List Float) → AllF64 v → (buoys : List ℕ) (room buoy_room : ℕ) (s : StringOf Vertex)
+    → build v buoys room buoy_room ≡ answered s → Stored (unnumbered s)
 
 -- with a given flag too.
 abbrev pub FlaggedAccepted : Type 0

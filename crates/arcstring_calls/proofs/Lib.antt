@@ -1,3 +1,2 @@
 -- What the proofs of the calls for C share.
-mod Places
 mod Runs

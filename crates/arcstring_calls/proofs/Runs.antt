@@ -1,12 +1,7 @@
 -- A run that is not empty starts within the list. Assumes nothing.
-use mathlib.Core.Path.{◌≡◌, refl}
-use mathlib.Core.Bool.{Bool, true, false, ◌&&◌}
-use mathlib.Core.List.{List, []}
-use Prim.Native.Nat.{ℕ, ◌-◌, ◌*◌, ◌/◌, ◌%◌, ◌<◌}
-use native.Mathlib.Omega.{arith}
-use lib.Dec.{eqb, leb}
-use lib.ListN.{length, take, drop, length-take, length-drop}
-use lib.Ieee.{Float}
+use Rattle.std.proofs.Common.{◌≡◌, refl, ap, ℕ, ◌-◌, ◌*◌, ◌/◌, ◌%◌, ◌<◌, Bool, true, false, ◌&&◌, List, [], ◌∷◌, length, take, drop, arith, length-take}
+use Rattle.std.proofs.Common.{length-drop}
+use Rattle.std.specs.Prelude.{◌==◌, eqb, leb, Float}
 use Rattle.arcstring_check.specs.Answer.{pick}
 use Rattle.arcstring_walk.specs.Walk.{run_of}
 
@@ -14,6 +9,8 @@ within : (t : Bool) (v : List Float) (k n : ℕ) → (length (pick t (take n (dr
 within true v k n h = omega (arith, length-take n (drop k v), length-drop k v)
 within false v k n h = absurd (h refl)
 
-pub run_starts_within : (v : List Float) (a b : ℕ) → (length (run_of v a b) ≡ 0 → ⊥) → 3 * a < length v
+pub run_starts_within : (v part : List Float) (a b : ℕ) → part ≡ run_of v a b → (length part == 0) ≡ false → 3 * a < length v
 unfolding run_of
-run_starts_within v a b h = within (eqb (length v % 3) 0 && leb a b && leb b (length v / 3)) v (3 * a) (3 * b - 3 * a) h
+run_starts_within v [] a b e h = absurd (cc)
+run_starts_within v (x ∷ part) a b e h =
+    within (eqb (length v % 3) 0 && leb a b && leb b (length v / 3)) v (3 * a) (3 * b - 3 * a) (λ z. omega (arith, ap length e, z))

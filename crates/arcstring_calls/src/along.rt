@@ -6,7 +6,8 @@ ghost use Rattle.arcstring_along.specs.OnString.{along};
 ghost use Rattle.arcstring_put.specs.Put.{answer_number, left_in, flag};
 
 use arcstring_along::on_string;
-use arcstring_put::inner::{lent, put};
+use arcstring_put::inner::lent;
+use arcstring_put::inner::put::put;
 use sphericalpoint::SphericalPoint;
 
 pub fn arcstring_along(
@@ -23,5 +24,5 @@ pub fn arcstring_along(
 {
     let p = SphericalPoint::new(x, y, z);
     let r = on_string::point_is_along_arcstring(p, v, near, lent::is_closed(closed));
-    put::put_verdict(r, yes)
+    put(r, yes)
 }

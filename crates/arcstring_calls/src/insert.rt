@@ -6,7 +6,8 @@ ghost use Rattle.arcstring_insert.specs.Insert.{insert_vertices};
 ghost use Rattle.arcstring_put.specs.Put.{answer_number, left_in, flag};
 
 use arcstring_insert::insert;
-use arcstring_put::inner::{lent, put};
+use arcstring_put::inner::lent;
+use arcstring_put::inner::put::put;
 
 pub fn arcstring_insert_vertices(
     v: &[f64],
@@ -32,5 +33,5 @@ pub fn arcstring_insert_vertices(
 {
     let flag = lent::is_closed(closed);
     let r = insert::insert_vertices(v, buoys, flag, points, point_buoys, out, out_buoys);
-    put::put_count(r, count)
+    put(r, count)
 }

@@ -9,7 +9,8 @@ ghost use Rattle.arcstring_put_found.specs.PutFound.{four_counts};
 ghost use Rattle.arcstring_calls.specs.Numbers.{kept_count, listing_counts};
 
 use arcstring_listing::listing;
-use arcstring_put::inner::{lent, put};
+use arcstring_put::inner::lent;
+use arcstring_put::inner::put::put;
 use arcstring_put_found::inner::found;
 use sphericalpoint::SphericalPoint;
 
@@ -32,7 +33,7 @@ pub fn arcstring_count(
         lent::is_closed(b_closed),
         margin,
     );
-    found::put_counts(r, counts)
+    put(r, counts)
 }
 
 pub fn arcstring_leg_crossings(
@@ -124,5 +125,5 @@ pub fn arcstring_same_side(
     let a = SphericalPoint::new(ax, ay, az);
     let b = SphericalPoint::new(bx, by, bz);
     let r = listing::points_are_on_same_side(a, b, v, lent::is_closed(closed));
-    put::put_verdict(r, yes)
+    put(r, yes)
 }

@@ -11,7 +11,8 @@ ghost use Rattle.arcstring_calls.specs.Numbers.{pieces_written};
 
 use arcstring_mark::mark;
 use arcstring_mark_cut::cut;
-use arcstring_put::inner::{lent, put};
+use arcstring_put::inner::lent;
+use arcstring_put::inner::put::put;
 use arcstring_put_found::inner::found;
 use sphericalpoint::SphericalPoint;
 
@@ -20,7 +21,7 @@ pub fn arcstring_mark_on_leg(leg: &[f64; 6], x: f64, y: f64, z: f64, yes: &mut u
     ensures yes_after { yes.new ≡ left_in flag_number (on_leg (leg_of_six leg.now) (point x y z)) yes.old }
 {
     let r = mark::mark_on_leg(lent::leg_of_six(leg), SphericalPoint::new(x, y, z));
-    put::put_verdict(r, yes)
+    put(r, yes)
 }
 
 pub fn arcstring_mark_on_string(x: f64, y: f64, z: f64, v: &[f64], closed: u8, yes: &mut u8) -> u32
@@ -29,7 +30,7 @@ pub fn arcstring_mark_on_string(x: f64, y: f64, z: f64, v: &[f64], closed: u8, y
 {
     let p = SphericalPoint::new(x, y, z);
     let r = mark::mark_on_string(p, v, lent::is_closed(closed));
-    put::put_verdict(r, yes)
+    put(r, yes)
 }
 
 pub fn arcstring_cut_at_marks(

@@ -6,7 +6,7 @@ ghost use Rattle.arcstring_point.specs.Point.{equal_points, coplanar_points, bui
 ghost use Rattle.arcstring_put.specs.Put.{answer_number, left_in, three_floats};
 
 use arcstring_point::point;
-use arcstring_put::inner::put;
+use arcstring_put::inner::put::put;
 use sphericalpoint::SphericalPoint;
 
 pub fn arcstring_xyz_eq(ax: f64, ay: f64, az: f64, bx: f64, by: f64, bz: f64, yes: &mut u8) -> u32
@@ -15,7 +15,7 @@ pub fn arcstring_xyz_eq(ax: f64, ay: f64, az: f64, bx: f64, by: f64, bz: f64, ye
 {
     let a = SphericalPoint::new(ax, ay, az);
     let b = SphericalPoint::new(bx, by, bz);
-    put::put_verdict(point::xyz_eq(a, b), yes)
+    put(point::xyz_eq(a, b), yes)
 }
 
 pub fn arcstring_xyzs_coplanar(
@@ -36,7 +36,7 @@ pub fn arcstring_xyzs_coplanar(
     let a = SphericalPoint::new(ax, ay, az);
     let b = SphericalPoint::new(bx, by, bz);
     let c = SphericalPoint::new(cx, cy, cz);
-    put::put_verdict(point::xyzs_coplanar(a, b, c), yes)
+    put(point::xyzs_coplanar(a, b, c), yes)
 }
 
 pub fn arcstring_point(x: f64, y: f64, z: f64, out: &mut [f64; 3]) -> u32
@@ -44,5 +44,5 @@ pub fn arcstring_point(x: f64, y: f64, z: f64, out: &mut [f64; 3]) -> u32
     ensures out_after { out.new ≡ left_in three_floats (built_point (point x y z)) out.old }
 {
     let p = SphericalPoint::new(x, y, z);
-    put::put_point(point::point_from(p), out)
+    put(point::point_from(p), out)
 }

@@ -5,7 +5,8 @@ ghost use Rattle.arcstring_equals.specs.Simplified.{equals, overlaps};
 ghost use Rattle.arcstring_put.specs.Put.{answer_number, left_in, flag};
 
 use arcstring_equals::simplified;
-use arcstring_put::inner::{lent, put};
+use arcstring_put::inner::lent;
+use arcstring_put::inner::put::put;
 
 pub fn arcstring_equals(
     a: &[f64],
@@ -23,7 +24,7 @@ pub fn arcstring_equals(
 {
     let first = lent::is_closed(a_closed);
     let second = lent::is_closed(b_closed);
-    put::put_verdict(simplified::equals(a, a_near, first, b, b_near, second), yes)
+    put(simplified::equals(a, a_near, first, b, b_near, second), yes)
 }
 
 pub fn arcstring_overlaps(
@@ -42,7 +43,7 @@ pub fn arcstring_overlaps(
 {
     let first = lent::is_closed(a_closed);
     let second = lent::is_closed(b_closed);
-    put::put_verdict(
+    put(
         simplified::overlaps(a, a_near, first, b, b_near, second),
         yes,
     )

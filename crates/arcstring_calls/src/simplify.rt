@@ -5,7 +5,8 @@ ghost use Rattle.arcstring.specs.Written.{written_floats, without_buoys, written
 ghost use Rattle.arcstring_simplify.specs.Simplify.{simplify};
 ghost use Rattle.arcstring_put.specs.Put.{answer_number, left_in, flag};
 
-use arcstring_put::inner::{lent, put};
+use arcstring_put::inner::lent;
+use arcstring_put::inner::put::put;
 use arcstring_simplify::simplify;
 
 pub fn arcstring_simplify(
@@ -28,5 +29,5 @@ pub fn arcstring_simplify(
         (simplify v.now buoys.now (flag closed) (length out.old) (length out_buoys.old)) count.old }
 {
     let r = simplify::simplify(v, buoys, lent::is_closed(closed), out, out_buoys);
-    put::put_count(r, count)
+    put(r, count)
 }

@@ -1,12 +1,13 @@
 // The calls that walk a string: back, from another vertex, and a run of its vertices.
-ghost use Rattle.std.specs.Prelude.{◌≡◌, ◌*◌, ◌^◌, ◌<◌, eqb, length};
-ghost use Rattle.arcstring_check.specs.Answer.{leaves, pick};
+ghost use Rattle.std.specs.Prelude.{◌≡◌, length};
+ghost use Rattle.arcstring_check.specs.Answer.{leaves};
 ghost use Rattle.arcstring.specs.Written.{written_floats, without_buoys, written_buoys};
 ghost use Rattle.arcstring_walk.specs.Walk.{walk_back, restart};
 ghost use Rattle.arcstring_put.specs.Put.{answer_number, left_in, flag};
 ghost use Rattle.arcstring_calls.specs.Numbers.{run_length, run_start};
 
-use arcstring_put::inner::{lent, put};
+use arcstring_put::inner::lent;
+use arcstring_put::inner::put::put;
 use arcstring_walk::walk;
 
 pub fn arcstring_walk_back(
@@ -27,7 +28,7 @@ pub fn arcstring_walk_back(
         (walk_back v.now buoys.now (length out.old) (length out_buoys.old)) count.old }
 {
     let r = walk::walk_back(v, buoys, out, out_buoys);
-    put::put_count(r, count)
+    put(r, count)
 }
 
 pub fn arcstring_restart(
@@ -52,15 +53,7 @@ pub fn arcstring_restart(
         count.old }
 {
     let r = walk::restart(v, buoys, lent::is_closed(closed), at, out, out_buoys);
-    put::put_count(r, count)
-}
-
-// Where a run of so many floats starts in the list.
-fn run_start(n: usize, from: usize) -> usize
-    requires { (n ≡ 0 → ⊥) → 3 * from < 2 ^ 64 }
-    ensures { result ≡ pick (eqb n 0) 0 (3 * from) }
-{
-    if n == 0 { 0 } else { 3 * from }
+    put(r, count)
 }
 
 pub fn arcstring_run(v: &[f64], from: usize, to: usize, start: &mut usize, len: &mut usize)
@@ -68,7 +61,6 @@ pub fn arcstring_run(v: &[f64], from: usize, to: usize, start: &mut usize, len: 
     ensures len_after { len.new ≡ run_length v.now from to }
 {
     let part = walk::run(v, from, to);
-    let n = part.len();
-    *len = n;
-    *start = run_start(n, from);
+    *start = if part.is_empty() { 0 } else { 3 * from };
+    *len = part.len();
 }

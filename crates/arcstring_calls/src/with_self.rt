@@ -6,7 +6,8 @@ ghost use Rattle.arcstring_self.specs.SelfListing.{self_crossings, crosses_self}
 ghost use Rattle.arcstring_put.specs.Put.{answer_number, left_in, flag};
 ghost use Rattle.arcstring_calls.specs.Numbers.{kept_count, listing_counts};
 
-use arcstring_put::inner::{lent, put};
+use arcstring_put::inner::lent;
+use arcstring_put::inner::put::put;
 use arcstring_put_found::inner::found;
 use arcstring_self::with_self;
 
@@ -39,5 +40,5 @@ pub fn arcstring_crosses_self(v: &[f64], closed: u8, yes: &mut u8) -> u32
     ensures value { result ≡ answer_number (crosses_self v.now (flag closed)) }
     ensures yes_after { yes.new ≡ left_in flag_number (crosses_self v.now (flag closed)) yes.old }
 {
-    put::put_verdict(with_self::crosses_self(v, lent::is_closed(closed)), yes)
+    put(with_self::crosses_self(v, lent::is_closed(closed)), yes)
 }

@@ -1,4 +1,7 @@
 -- How a check's number decides an answer: a refusal's number is the answer whatever would follow, and 0 lets what follows be the answer. Assumes nothing.
+use Rattle.std.specs.Prelude.{Result, Ok, Err}
+use Rattle.std.specs.Result.{IsErrAnd}
+use Rattle.std.proofs.lemmas.Result.{err_from_is_err_and}
 use mathlib.Core.Path.{◌≡◌, refl, sym, ap, ◌∙◌}
 use mathlib.Core.List.{List, [], ◌∷◌}
 use Prim.Native.Nat.{ℕ, zero, suc}
@@ -6,10 +9,8 @@ use native.Mathlib.Omega.{arith}
 use Rattle.arcstring_check.specs.declared.check.Refusal.{Refusal}
 use Rattle.arcstring_check.specs.declared.check.Refusal.TheVariants.{NotTriples, TooFewPoints, TooManyPoints, OutOfRange, RemovesPastEnd, ReadsPastEnd}
 use Rattle.arcstring_check.specs.declared.check.Refusal.TheVariants.{NoRoom, MarginOutOfRange, BuoysNotAsMany}
-use Rattle.arcstring_check.specs.declared.check.Checked.{Checked}
-use Rattle.arcstring_check.specs.declared.check.Checked.TheVariants.{Accepted, Refused}
 use Rattle.arcstring_check.specs.Check.{check_number}
-use Rattle.arcstring_check.specs.Answer.{Answer, refused, answered, unless_refused, map_answer, and_then, first_of, refusal_number}
+use Rattle.arcstring_check.specs.Answer.{Answer, refused, answered, answer_of, unless_refused, map_answer, and_then, first_of, refusal_number}
 
 at_refusal : {A : Type 0} (e : Refusal) (x : Answer A) → refused (refusal_number e) ≡ unless_refused (refusal_number e) x
 at_refusal NotTriples x = refl
@@ -27,6 +28,20 @@ refuse e n x h = at_refusal e x ∙ sym (ap (λ (m : ℕ). unless_refused m x) h
 
 pub pass : {A : Type 0} (n : ℕ) (x : Answer A) → n ≡ 0 → unless_refused n x ≡ x
 pass n x h = ap (λ (m : ℕ). unless_refused m x) h
+
+-- a check's promise where its answer was `Err`, and where it was `Ok`
+pub stopped : {A : Type 0} (e : Refusal) (n : ℕ) (x : Answer A) → refusal_number e ≡ n → refused (refusal_number e) ≡ unless_refused n x
+stopped e n x h = refuse e n x (sym h)
+
+pub went_on : {A : Type 0} (n : ℕ) (x : Answer A) → 0 ≡ n → x ≡ unless_refused n x
+went_on n x h = sym (pass n x (sym h))
+
+-- what a `?` returns where the answer was `Err`
+pub left : {A : Type 0} (r : Result A Refusal) (e : Refusal) → IsErrAnd r (λ y. y ≡ e) → answer_of r ≡ refused (refusal_number e)
+left r e h = let p = err_from_is_err_and r h in rw (p.1, p.2)
+
+pub check_left : (r : Result Unit Refusal) (e : Refusal) → IsErrAnd r (λ y. y ≡ e) → check_number r ≡ refusal_number e
+check_left r e h = let p = err_from_is_err_and r h in rw (p.1, p.2)
 
 -- where a check passes is all that matters of what follows it
 pub where_passed : {A : Type 0} (n : ℕ) (x y : Answer A) → (n ≡ 0 → x ≡ y) → unless_refused n x ≡ unless_refused n y
@@ -76,15 +91,15 @@ refusal_first BuoysNotAsMany n = refl
 
 -- ---- the same, for code that took a check's answer apart
 
-module _ {A : Type 0} (k : Checked) where
-  pub answer_refused : (e : Refusal) (n : ℕ) (x : Answer A) → k ≡ Refused e → check_number k ≡ n → refused (refusal_number e) ≡ unless_refused n x
+module _ {A : Type 0} (k : Result Unit Refusal) where
+  pub answer_refused : (e : Refusal) (n : ℕ) (x : Answer A) → k ≡ Err e → check_number k ≡ n → refused (refusal_number e) ≡ unless_refused n x
   answer_refused e n x h g = refuse e n x (sym g ∙ ap check_number h)
 
-  pub answer_accepted : (n : ℕ) (x : Answer A) → k ≡ Accepted → check_number k ≡ n → x ≡ unless_refused n x
+  pub answer_accepted : (n : ℕ) (x : Answer A) → k ≡ Ok tt → check_number k ≡ n → x ≡ unless_refused n x
   answer_accepted n x h g = sym (pass n x (sym g ∙ ap check_number h))
 
-pub first_refused : (k : Checked) (e : Refusal) (n : ℕ) → k ≡ Refused e → refusal_number e ≡ first_of (check_number k) n
-first_refused k e n h = refusal_first e n ∙ sym (ap (λ (x : Checked). first_of (check_number x) n) h)
+pub first_refused : (k : Result Unit Refusal) (e : Refusal) (n : ℕ) → k ≡ Err e → refusal_number e ≡ first_of (check_number k) n
+first_refused k e n h = refusal_first e n ∙ sym (ap (λ (x : Result Unit Refusal). first_of (check_number x) n) h)
 
 pub both_numbers : {k l m n : ℕ} → k ≡ m → l ≡ n → first_of k l ≡ first_of m n
 both_numbers p q = λ i. first_of (p i) (q i)
@@ -114,15 +129,15 @@ all_pass : (n : ℕ) (ms : List ℕ) → in_turn n ms ≡ 0 → AllPass n ms
 all_pass n [] h = h
 all_pass n (m ∷ ms) h = (first_passes n (in_turn m ms) h, all_pass m ms (second_passes n (in_turn m ms) h))
 
-module _ (k : Checked) where
-  pub refused_in_turn : {A : Type 0} (e : Refusal) (n : ℕ) (ms : List ℕ) (x : Answer A) → k ≡ Refused e → check_number k ≡ in_turn n ms
+module _ (k : Result Unit Refusal) where
+  pub refused_in_turn : {A : Type 0} (e : Refusal) (n : ℕ) (ms : List ℕ) (x : Answer A) → k ≡ Err e → check_number k ≡ in_turn n ms
       → refused (refusal_number e) ≡ unless_any n ms x
   refused_in_turn e n ms x h g = answer_refused k e (in_turn n ms) x h g ∙ all_in_turn n ms x
 
-  pub accepted_in_turn : {A : Type 0} (n : ℕ) (ms : List ℕ) (x : Answer A) → k ≡ Accepted → check_number k ≡ in_turn n ms → x ≡ unless_any n ms x
+  pub accepted_in_turn : {A : Type 0} (n : ℕ) (ms : List ℕ) (x : Answer A) → k ≡ Ok tt → check_number k ≡ in_turn n ms → x ≡ unless_any n ms x
   accepted_in_turn n ms x h g = answer_accepted k (in_turn n ms) x h g ∙ all_in_turn n ms x
 
-  pub passed_in_turn : (n : ℕ) (ms : List ℕ) → k ≡ Accepted → check_number k ≡ in_turn n ms → AllPass n ms
+  pub passed_in_turn : (n : ℕ) (ms : List ℕ) → k ≡ Ok tt → check_number k ≡ in_turn n ms → AllPass n ms
   passed_in_turn n ms h g = all_pass n ms (sym g ∙ ap check_number h)
 
 -- ---- what follows an answer, and a refusal

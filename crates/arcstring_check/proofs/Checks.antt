@@ -1,4 +1,5 @@
 -- The checks at each outcome of their tests, and what an accepted list is. Assumes nothing.
+use Rattle.std.specs.Prelude.{Result, Err}
 use mathlib.Core.Path.{◌≡◌, refl, sym, ap, ◌∙◌}
 use mathlib.Core.Bool.{Bool, true, false, not, ◌&&◌, and-true, and_assoc, not-not}
 use mathlib.Core.List.{List}
@@ -19,8 +20,6 @@ use Rattle.ieee754.proofs.Bounds.{between_at_most, at_most_between}
 use Rattle.sphericalpoint.specs.declared.SphericalPoint.{SphericalPoint}
 use borrow.Author.Tests.{eqb-true, ltb-false, eq-eqb, ne_eqb, lt-ltb, le-ltb, eqb-false}
 use Rattle.arcstring_check.specs.declared.check.Refusal.{Refusal}
-use Rattle.arcstring_check.specs.declared.check.Checked.{Checked}
-use Rattle.arcstring_check.specs.declared.check.Checked.TheVariants.{Refused}
 use Rattle.arcstring_check.specs.Answer.{number_if, first_of, refusal_number}
 use Rattle.arcstring_check.specs.Check.{check_number, in_range, all_in_range, list_check, stored_check, buoys_check, string_check, build_check, building_check}
 use Rattle.arcstring_check.specs.Check.{most_points, points_check, point_check, margin_check}
@@ -84,7 +83,7 @@ module _ (few : ℕ) (v : List Float) where
       sym (ap (λ (m : ℕ). first_of m (number_if (not c) 4)) e)
       ∙ by_tests_lem true false c (eq-eqb _ _ h) (le-ltb _ _ l) r
 
-pub few_refused : (k : Checked) (e : Refusal) (v : List Float) → length v % 3 ≡ 0 → k ≡ Refused e → refusal_number e ≡ list_check (check_number k) v
+pub few_refused : (k : Result Unit Refusal) (e : Refusal) (v : List Float) → length v % 3 ≡ 0 → k ≡ Err e → refusal_number e ≡ list_check (check_number k) v
 few_refused k e v h g = first_refused k e _ g ∙ by_tests_lem (check_number k) v true (ltb 1024 (length v / 3)) (all_in_range v) (eq-eqb _ _ h) refl refl
 
 module _ (v : List Float) where

@@ -1,15 +1,19 @@
 -- The room check at each outcome: 7 where the answer is longer than the buffer, else 0, and then it fits; and a finished answer that is handed over. Assumes
 -- nothing.
-use mathlib.Core.Path.{◌≡◌, ap}
-use mathlib.Core.Bool.{Bool}
+use Rattle.std.specs.Prelude.{Err}
+use mathlib.Core.Path.{◌≡◌, refl, sym, ap, ◌∙◌}
+use mathlib.Core.Bool.{Bool, true, false}
 use mathlib.Core.List.{List}
-use Prim.Native.Nat.{ℕ, ◌*◌, ◌≤◌, ◌<◌}
+use Prim.Native.Nat.{ℕ, ◌*◌, ◌/◌, ◌≤◌, ◌<◌}
+use native.Mathlib.Omega.{arith}
 use lib.ListN.{length}
 use lib.Dec.{ltb}
-use borrow.Author.Tests.{lt-ltb, le-ltb, ltb-false}
+use borrow.Author.Tests.{lt-ltb, le-ltb, ltb-true, ltb-false}
 use Rattle.sphericalpoint.specs.declared.SphericalPoint.{SphericalPoint}
-use Rattle.arcstring_check.specs.Answer.{refused, answered, unless_refused, number_if}
-use Rattle.arcstring_check.specs.Check.{room_check, into_room}
+use Rattle.arcstring_check.specs.Answer.{refused, answered, unless_refused, number_if, refusal_number}
+use Rattle.arcstring_check.specs.Check.{room_check, rooms_check, into_room}
+use Rattle.arcstring_check.specs.declared.check.Refusal.{Refusal}
+use Rattle.arcstring_check.proofs.Answers.{first_passes, second_passes, first_refused}
 use Rattle.arcstring_check.proofs.Checks.{if_none}
 
 pub no_room : (needed lent : ℕ) → lent < needed → room_check needed lent ≡ 7
@@ -23,6 +27,36 @@ room_enough needed lent h = ap (λ (b : Bool). number_if b 7) (le-ltb lent neede
 pub room_fits : (needed lent : ℕ) → room_check needed lent ≡ 0 → needed ≤ lent
 unfolding room_check
 room_fits needed lent h = ltb-false lent needed (if_none (ltb lent needed) 6 h)
+
+-- vertices, in a buffer of floats
+vertex_room : (n floats : ℕ) → room_check n (floats / 3) ≡ room_check (3 * n) floats
+unfolding room_check
+vertex_room n floats = go (ltb (floats / 3) n) refl
+  where
+    go : (b : Bool) → ltb (floats / 3) n ≡ b → number_if (ltb (floats / 3) n) 7 ≡ number_if (ltb floats (3 * n)) 7
+    go true e = let l : floats / 3 < n = ltb-true (floats / 3) n e in rw (e, lt-ltb floats (3 * n) (omega arith))
+    go false e = let l : n ≤ floats / 3 = ltb-false (floats / 3) n e in rw (e, le-ltb floats (3 * n) (omega arith))
+
+-- vertices and their numbers
+module _ (n floats numbers : ℕ) where
+  pub rooms_stopped : (e : Refusal) → refusal_number e ≡ room_check n (floats / 3) → refusal_number e ≡ rooms_check n floats numbers
+  unfolding rooms_check
+  rooms_stopped e h =
+      let p : refusal_number e ≡ room_check (3 * n) floats = h ∙ vertex_room n floats in
+      rw (← p) (first_refused (Err e) e (room_check n numbers) refl)
+
+  pub rooms_went_on : (m : ℕ) → 0 ≡ room_check n (floats / 3) → m ≡ room_check n numbers → m ≡ rooms_check n floats numbers
+  unfolding rooms_check
+  rooms_went_on m h g =
+      let p : 0 ≡ room_check (3 * n) floats = h ∙ vertex_room n floats in
+      rw (← p, g)
+
+  pub rooms_hold : 0 ≡ rooms_check n floats numbers → (3 * n ≤ floats) × (n ≤ numbers)
+  unfolding rooms_check
+  rooms_hold h = (
+    room_fits (3 * n) floats (first_passes (room_check (3 * n) floats) (room_check n numbers) (sym h)),
+    room_fits n numbers (second_passes (room_check (3 * n) floats) (room_check n numbers) (sym h)),
+  )
 
 -- a finished answer, handed over
 module _ (room : ℕ) (ps : List SphericalPoint) where

@@ -1,8 +1,8 @@
 -- What a call answers, in the words of docs/TERMS.md: the number of a refusal, or a result; and what it leaves in a buffer that was lent to it. Definitions
 -- only.
-use Rattle.std.specs.Prelude.{Bool, true, false, List, ◌++◌, ℕ, zero, suc, length, drop}
-use Rattle.arcstring_check.specs.declared.check.Decided.{Decided}
-use Rattle.arcstring_check.specs.declared.check.Decided.TheVariants as D
+use Rattle.std.specs.Prelude as Std
+use Rattle.std.specs.Prelude.{Bool, true, false, List, ◌++◌, ℕ, zero, suc, length, drop, Result, Ok, Err, Some, None}
+use Rattle.std.proofs.Math.Option.{Option, none, some}
 use Rattle.arcstring_check.specs.declared.check.Refusal.{Refusal}
 use Rattle.arcstring_check.specs.declared.check.Refusal.TheVariants.{NotTriples, TooFewPoints, TooManyPoints, OutOfRange, RemovesPastEnd, ReadsPastEnd}
 use Rattle.arcstring_check.specs.declared.check.Refusal.TheVariants.{NoRoom, MarginOutOfRange, BuoysNotAsMany}
@@ -23,10 +23,15 @@ pub data Answer (A : Type 0) : Type 0 where
   refused : ℕ → Answer A
   answered : A → Answer A
 
--- what a call that decides something answers
-abbrev pub decided_answer : Decided → Answer Bool
-decided_answer (D.Verdict b) = answered b
-decided_answer (D.Refused e) = refused (refusal_number e)
+-- what a call answers, its refusal by number
+abbrev pub answer_of : {A : Type 0} → Result A Refusal → Answer A
+answer_of (Ok x) = answered x
+answer_of (Err e) = refused (refusal_number e)
+
+-- a value that may be missing, as the definitions have it
+abbrev pub option_of : {A : Type 0} → Std.Option A → Option A
+option_of (Some x) = some x
+option_of None = none
 
 -- A check gives the number of a refusal, or 0 where there is none.
 abbrev pub number_if : Bool → ℕ → ℕ

@@ -1,18 +1,17 @@
 -- The checks of docs/TERMS.md's table on what is handed in: each list's in number order, 10 right after 1. 0 where all is well, else the
 -- number of the first refusal. Definitions only.
-use Rattle.std.specs.Prelude.{Bool, true, false, not, ◌&&◌, List, [], ◌∷◌, ℕ, ◌*◌, ◌/◌, ◌%◌, length, ltb, eqb, Float, pos}
+use Rattle.std.specs.Prelude.{Bool, true, false, not, ◌&&◌, List, [], ◌∷◌, ℕ, ◌*◌, ◌/◌, ◌%◌, length, ltb, eqb, Float, pos, Result, Ok, Err}
 use Rattle.std.specs.Float.{nan, inf, fin}
 use Rattle.std.specs.Float.Ieee.{lt, le}
 use Rattle.ieee754.specs.Value.{zero_float}
 use Rattle.sphericalpoint.specs.declared.SphericalPoint.{SphericalPoint}
-use Rattle.arcstring_check.specs.declared.check.Checked.{Checked}
-use Rattle.arcstring_check.specs.declared.check.Checked.TheVariants.{Accepted, Refused}
 use Rattle.arcstring_check.specs.Answer.{Answer, answered, unless_refused, and_then, number_if, first_of, refusal_number}
+use Rattle.arcstring_check.specs.declared.check.Refusal.{Refusal}
 
 -- what a check's answer is in these numbers
-abbrev pub check_number : Checked → ℕ
-check_number Accepted = 0
-check_number (Refused e) = refusal_number e
+abbrev pub check_number : Result Unit Refusal → ℕ
+check_number (Ok tt) = 0
+check_number (Err e) = refusal_number e
 
 -- from -1 to 1; no NaN and no infinity is
 unfoldable pub in_range : Float → Bool
@@ -33,7 +32,8 @@ most_floats = 3 * most_points
 -- out of range.
 unfoldable pub list_check : ℕ → List Float → ℕ
 list_check few v =
-    first_of (number_if (not (eqb (length v % 3) 0)) 1) (first_of few (first_of (number_if (ltb most_points (length v / 3)) 3) (number_if (not (all_in_range v)) 4)))
+    first_of (number_if (not (eqb (length v % 3) 0)) 1)
+    (first_of few (first_of (number_if (ltb most_points (length v / 3)) 3) (number_if (not (all_in_range v)) 4)))
 
 -- the vertices or the near list of a stored string: an empty one is refused by 1
 unfoldable pub stored_check : List Float → ℕ

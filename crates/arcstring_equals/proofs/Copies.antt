@@ -1,7 +1,6 @@
 -- A simplified copy of an accepted string, as it stands in a local list after `simplify_points`: it is the copy of the definitions, and
 -- accepted. Assumes nothing.
 use mathlib.Core.Path.{◌≡◌, refl, sym, ap, ◌∙◌}
-use mathlib.Core.Bool.{Bool}
 use mathlib.Core.List.{List}
 use Prim.Native.Nat.{ℕ, ◌*◌, ◌≤◌}
 use native.Mathlib.Omega.{arith}
@@ -10,17 +9,16 @@ use lib.Seq.{take_at}
 use lib.Ieee.{Float}
 use Rattle.sphericalpoint.specs.declared.SphericalPoint.{SphericalPoint}
 use Rattle.arcstring_check.specs.declared.check.Refusal.{Refusal}
-use Rattle.arcstring_check.specs.declared.check.Written.{Written}
-use Rattle.arcstring_check.specs.declared.check.Written.TheVariants as W
 use Rattle.arcstring_check.specs.Answer.{Answer, refused, answered, and_then, map_answer, leaves, refusal_number}
 use Rattle.arcstring.specs.Points.{itself, ArcString, points, flat, copied}
 use Rattle.arcstring_check.specs.Check.{stored_check, into_room}
-use Rattle.arcstring.specs.Written.{written_answer, written_result, written_floats}
+use Rattle.arcstring.specs.Written.{written_result, written_floats}
 use Rattle.arcstring_check.proofs.Answers.{pass}
 use Rattle.arcstring_check.proofs.Checks.{stored_whole}
 use Rattle.arcstring.proofs.Flat.{points-flat, length-flat}
 use Rattle.arcstring_check.proofs.Rooms.{room_into}
-use Rattle.arcstring_along.specs.OnString.{stored}
+use Rattle.arcstring_along.specs.declared.inner.stored.Stored.{Stored}
+use Rattle.arcstring_along.specs.OnString.{stored, string_of}
 use Rattle.arcstring_rounds.specs.Rounds.{simplified, simplify_points}
 use Rattle.arcstring_equals.specs.Simplified.{simplified_string}
 use Rattle.arcstring_simplify.proofs.SimplifiedAccepted.{simplified_accepted}
@@ -51,53 +49,51 @@ told_answered (answered qs) n old out h w =
       here = ap (take (3 * n)) w ∙ take_at (flat qs) (drop (length (flat qs)) old) (3 * n) l;
     }
 
--- ---- the copy of an accepted string, simplified into a list of 3,072 floats
+-- ---- the copy of an accepted string, simplified into a list of m floats, 3,072 at least
 
-module _ (v near : List Float) (closed : Bool) (accepted : stored_check v ≡ 0) where
+module _ (s : Stored) (m : ℕ) (enough : 3072 ≤ m) where
   -- there is always room
-  roomy : (x : Answer (List SphericalPoint)) → simplified itself closed (points v) ≡ x → and_then x (into_room 3072) ≡ x
+  roomy : (x : Answer (List SphericalPoint)) → simplified itself s.closed (points s.v.now) ≡ x → and_then x (into_room m) ≡ x
   roomy (refused n) e = refl
   roomy (answered qs) e =
-      room_into 3072 qs (omega (arith, length-flat qs, (stored_whole (flat qs) (simplified_accepted v closed qs accepted e)).at_most))
+      room_into m qs (omega (arith, length-flat qs, (stored_whole (flat qs) (simplified_accepted s.v.now s.closed qs s.accepted.0 e)).at_most))
 
-  whole : simplify_points v closed 3072 ≡ simplified itself closed (points v)
+  whole : simplify_points s.v.now s.closed m ≡ simplified itself s.closed (points s.v.now)
   unfolding simplify_points
-  whole = pass (stored_check v) (and_then (simplified itself closed (points v)) (into_room 3072)) accepted ∙ roomy (simplified itself closed (points v)) refl
+  whole =
+      pass (stored_check s.v.now) (and_then (simplified itself s.closed (points s.v.now)) (into_room m)) s.accepted.0
+      ∙ roomy (simplified itself s.closed (points s.v.now)) refl
 
-  abbrev with_vertices : List SphericalPoint → ArcString
-  with_vertices ps = record { vertices = ps; near = points v; closed = closed }
+-- a copy with these vertices
+abbrev with_vertices : Stored → List SphericalPoint → ArcString
+with_vertices s ps = record { vertices = ps; near = points s.v.now; closed = s.closed }
 
-  copy_is : simplified_string (copied (stored v near closed)) ≡ map_answer with_vertices (simplified itself closed (points v))
-  unfolding simplified_string copied
-  copy_is = refl
+copy_is : (s : Stored) → simplified_string (copied (string_of s)) ≡ map_answer (with_vertices s) (simplified itself s.closed (points s.v.now))
+unfolding simplified_string copied
+copy_is s = refl
 
-  module _ (r : Written) (old out : List Float) (answer : written_answer r ≡ written_result (simplify_points v closed 3072))
-      (left : out ≡ leaves (written_floats (simplify_points v closed 3072)) old) where
-    pub copy_refused : (e : Refusal) → r ≡ W.Refused e → simplified_string (copied (stored v near closed)) ≡ refused (refusal_number e)
-    copy_refused e told =
-        let x : simplify_points v closed 3072 ≡ refused (refusal_number e) =
-        told_refused (simplify_points v closed 3072) (refusal_number e) (sym (ap written_answer told) ∙ answer) in
-        copy_is ∙ ap (map_answer with_vertices) (sym whole ∙ x)
+pub copy_refused : (s : Stored) (m : ℕ) (e : Refusal) → refused (refusal_number e) ≡ written_result (simplify_points s.v.now s.closed m) → 3072 ≤ m
+    → simplified_string (copied (string_of s)) ≡ refused (refusal_number e)
+copy_refused s m e told enough =
+    copy_is s ∙ ap (map_answer (with_vertices s)) (sym (whole s m enough) ∙ told_refused (simplify_points s.v.now s.closed m) (refusal_number e) told)
 
-    module _ (n : ℕ) (told : r ≡ W.Vertices n) where
-      standing : Standing (simplify_points v closed 3072) n out
-      standing = told_answered (simplify_points v closed 3072) n old out (sym (ap written_answer told) ∙ answer) left
+module _ (s : Stored) (m n : ℕ) (old out : List Float) (told : answered n ≡ written_result (simplify_points s.v.now s.closed m))
+    (now : out ≡ leaves (written_floats (simplify_points s.v.now s.closed m)) old) (enough : 3072 ≤ m) where
+  standing : Standing (simplify_points s.v.now s.closed m) n out
+  standing = told_answered (simplify_points s.v.now s.closed m) n old out told now
 
-      pub copy_accepted : stored_check (take (3 * n) out) ≡ 0
-      copy_accepted = ap stored_check standing.here ∙ simplified_accepted v closed standing.qs accepted (sym whole ∙ standing.is)
+  accepted : stored_check (flat standing.qs) ≡ 0
+  accepted = simplified_accepted s.v.now s.closed standing.qs s.accepted.0 (sym (whole s m enough) ∙ standing.is)
 
-      pub copy_stands : simplified_string (copied (stored v near closed)) ≡ answered (stored (take (3 * n) out) v closed)
-      copy_stands =
-          let ps : standing.qs ≡ points (take (3 * n) out) = sym (ap points standing.here ∙ points-flat standing.qs) in
-          copy_is ∙ ap (map_answer with_vertices) (sym whole ∙ standing.is) ∙ ap (λ (qs : List SphericalPoint). answered (with_vertices qs)) ps
+  pub copy_accepted : stored_check (take (3 * n) out) ≡ 0
+  copy_accepted = ap stored_check standing.here ∙ accepted
 
-      -- so many floats are there
-      pub copy_count : n ≤ 1024
-      copy_count =
-          let c = standing.count in
-          omega (
-            arith,
-            length-flat standing.qs,
-            (stored_whole (flat standing.qs)
-                (simplified_accepted v closed standing.qs accepted (sym whole ∙ standing.is))).at_most,
-          )
+  pub copy_stands : simplified_string (copied (string_of s)) ≡ answered (stored (take (3 * n) out) s.v.now s.closed)
+  copy_stands =
+      let ps : standing.qs ≡ points (take (3 * n) out) = sym (ap points standing.here ∙ points-flat standing.qs) in
+      copy_is s ∙ ap (map_answer (with_vertices s)) (sym (whole s m enough) ∙ standing.is)
+      ∙ ap (λ (qs : List SphericalPoint). answered (with_vertices s qs)) ps
+
+  -- so many floats are there
+  pub copy_count : n ≤ 1024
+  copy_count = let c = standing.count in omega (arith, length-flat standing.qs, (stored_whole (flat standing.qs) accepted).at_most)

@@ -1,6 +1,6 @@
 -- A leg with both ends along the other string, sought from the first leg on; and what the tests before it decide. Assumes nothing.
 use mathlib.Core.Path.{◌≡◌, refl, sym, ap, ap₂, ◌∙◌}
-use mathlib.Core.Bool.{Bool, true, false, not, ◌&&◌}
+use mathlib.Core.Bool.{Bool, true, false, ◌&&◌}
 use mathlib.Core.List.{List, ◌∷◌}
 use Prim.Native.Nat.{ℕ, ◌+◌, ◌-◌, ◌*◌, ◌≤◌, ◌<◌}
 use native.Mathlib.Omega.{arith}
@@ -10,8 +10,8 @@ use Rattle.sphericalpoint.specs.declared.SphericalPoint.{SphericalPoint}
 use Rattle.arcstring_check.specs.Answer.{Answer, refused, answered, pick}
 use Rattle.arcstring.specs.Points.{ArcString, points, point_at}
 use Rattle.arcstring.proofs.Flat.{points-next, length-points}
-use Rattle.arcstring_along.specs.OnString.{along_string, stored}
-use Rattle.arcstring_against.specs.Against.{all_along, within_string}
+use Rattle.arcstring_along.specs.OnString.{along_string}
+use Rattle.arcstring_against.specs.Against.{apart}
 use Rattle.arcstring_equals.specs.Simplified.{or_else, overlap_legs, overlaps_apart}
 
 module _ (other : ArcString) (closed : Bool) (v : List Float) (n : ℕ) (whole : length v ≡ 3 * n) (k : ℕ) where
@@ -50,7 +50,8 @@ module _ (other : ArcString) (closed : Bool) (v : List Float) (n : ℕ) (whole :
     pub both_along : (q : SphericalPoint) (y : Bool) → q ≡ point_at v k → y ≡ along_string q other → x ≡ true → y ≡ true → legs_on (k - 1) ≡ answered true
     both_along q y hq hy e f = both_known q y hq hy e ∙ ap (λ (b : Bool). or_else b (legs_on k)) f
 
-    pub end_not-along : (q : SphericalPoint) (y : Bool) → q ≡ point_at v k → y ≡ along_string q other → x ≡ true → y ≡ false → legs_on (k + 1 - 1) ≡ legs_on (k - 1)
+    pub end_not-along : (q : SphericalPoint) (y : Bool) → q ≡ point_at v k → y ≡ along_string q other → x ≡ true → y ≡ false
+        → legs_on (k + 1 - 1) ≡ legs_on (k - 1)
     end_not-along q y hq hy e f = next ∙ sym (both_known q y hq hy e ∙ ap (λ (b : Bool). or_else b (legs_on k)) f)
 
   -- no leg but the closing one is left
@@ -67,28 +68,19 @@ module _ (other : ArcString) (closed : Bool) (v : List Float) (n : ℕ) (whole :
   pub open_end : 1 ≤ n → k ≡ n → closed ≡ false → legs_on (k - 1) ≡ answered false
   open_end some e c = legs_end some e ∙ ap (λ (b : Bool). pick b (refused 6) (answered false)) c
 
--- ---- neither within the other
+-- of the vertices of a string, as the code has them: w their list
+pub of_vertices : (other : ArcString) (closed : Bool) {v w : List Float} → w ≡ v → overlap_legs other closed (points w) ≡ overlap_legs other closed (points v)
+of_vertices other closed e = ap (λ (u : List Float). overlap_legs other closed (points u)) e
 
-module _ (a a_near : List Float) (a_closed : Bool) (b b_near : List Float) (b_closed : Bool) where
-  abbrev left : ArcString
-  left = stored a a_near a_closed
+-- ---- neither within the other: x whether that is so
 
-  abbrev right : ArcString
-  right = stored b b_near b_closed
+module _ (a b : ArcString) (x : Bool) (known : x ≡ apart a b) where
+  apart_by : (t : Bool) → x ≡ t → pick t (overlap_legs b a.closed a.vertices) (answered false) ≡ overlaps_apart a b
+  unfolding overlaps_apart
+  apart_by t e = ap (λ (s : Bool). pick s (overlap_legs b a.closed a.vertices) (answered false)) (sym e ∙ known)
 
-  -- x whether the left is within the right, y whether the right is within the left
-  apart_by : (x y : Bool) → x ≡ all_along (points a) right → y ≡ all_along (points b) left
-      → overlaps_apart left right ≡ pick (not x && not y) (overlap_legs right a_closed (points a)) (answered false)
-  unfolding overlaps_apart within_string
-  apart_by x y hx hy = ap₂ (λ (s t : Bool). pick (not s && not t) (overlap_legs right a_closed (points a)) (answered false)) (sym hx) (sym hy)
+  pub not-apart : x ≡ false → answered false ≡ overlaps_apart a b
+  not-apart = apart_by false
 
-  pub left-within : (x : Bool) → x ≡ all_along (points a) right → x ≡ true → answered false ≡ overlaps_apart left right
-  left-within x hx e = sym (apart_by true (all_along (points b) left) (sym e ∙ hx) refl)
-
-  pub right_within : (x y : Bool) → x ≡ all_along (points a) right → x ≡ false → y ≡ all_along (points b) left → y ≡ true
-      → answered false ≡ overlaps_apart left right
-  right_within x y hx e hy f = sym (apart_by false true (sym e ∙ hx) (sym f ∙ hy))
-
-  pub neither_within : (x y : Bool) (r : Answer Bool) → x ≡ all_along (points a) right → x ≡ false → y ≡ all_along (points b) left → y ≡ false
-      → r ≡ overlap_legs right a_closed (points a) → r ≡ overlaps_apart left right
-  neither_within x y r hx e hy f hr = hr ∙ sym (apart_by false false (sym e ∙ hx) (sym f ∙ hy))
+  pub are_apart : x ≡ true → overlap_legs b a.closed a.vertices ≡ overlaps_apart a b
+  are_apart = apart_by true

@@ -1,111 +1,70 @@
 // `equals` and `overlaps` of two strings, which simplify copies of them. The near list of a copy is its own vertices; a call's
 // own strings keep the near lists that were lent.
-ghost use Rattle.std.specs.Prelude.{◌≡◌};
-ghost use Rattle.arcstring.specs.Points.{points};
-ghost use Rattle.arcstring_check.specs.Check.{stored_check};
-ghost use Rattle.arcstring_check.specs.Answer.{decided_answer};
-ghost use Rattle.arcstring_along.specs.OnString.{stored};
-ghost use Rattle.arcstring_equals.specs.Simplified.{equals_longer, equals_simplified, equals_string, overlap_legs, overlaps_apart, same_simplified};
+ghost use Rattle.std.specs.Prelude.{◌≡◌, length, MatchResult};
+ghost use Rattle.arcstring.specs.Points.{points, copied};
+ghost use Rattle.arcstring_check.specs.Answer.{answered, refused, refusal_number, answer_of};
+ghost use Rattle.arcstring_along.specs.OnString.{string_of};
+ghost use Rattle.arcstring_equals.specs.Simplified.{simplified_string, equals_longer, equals_simplified, equals_string};
+ghost use Rattle.arcstring_equals.specs.Simplified.{overlap_legs, overlaps_apart, same_simplified};
 ghost use Rattle.arcstring_equals.specs.Simplified as Relation;
 
-use arcstring::inner::vertex;
+use arcstring::inner::vertex::Vertices;
 use arcstring_against::inner;
-use arcstring_along::inner::along;
-use arcstring_check::check::{Checked, Decided, MOST_FLOATS, Refusal, Written};
+use arcstring_along::inner::along::along_string;
+use arcstring_along::inner::stored::Stored;
+use arcstring_check::check::{MOST_FLOATS, Refusal};
+use arcstring_rounds::inner::simplify_points;
 
-// A simplified copy of the shorter string, as it stands in `short` with the near list `short_near`, against the longer, and
-// then against a simplified copy of the longer.
-fn equals_longer(
-    short: &[f64],
-    short_near: &[f64],
-    short_closed: bool,
-    longer: &[f64],
-    longer_near: &[f64],
-    longer_closed: bool,
-) -> Decided
-    requires { (stored_check short.now ≡ 0) × (stored_check short_near.now ≡ 0) × (stored_check longer.now ≡ 0)
-        × (stored_check longer_near.now ≡ 0) }
-    ensures { decided_answer result ≡ equals_longer (stored short.now short_near.now short_closed)
-        (stored longer.now longer_near.now longer_closed) }
+// A simplified copy of a string, as it stands in `room`. Its near list is the string's vertices.
+fn simplified_copy<'a>(
+    s: Stored<'a>,
+    room: &'a mut [f64; MOST_FLOATS],
+) -> Result<Stored<'a>, Refusal>
+    ensures { MatchResult result (λ copy. simplified_string (copied (string_of s.entry)) ≡ answered (string_of copy))
+        (λ e. simplified_string (copied (string_of s.entry)) ≡ refused (refusal_number e)) }
 {
-    if inner::equal_strings(
-        short,
-        short_near,
-        short_closed,
-        longer,
-        longer_near,
-        longer_closed,
-    ) {
-        return Decided::Verdict(true);
+    let n = simplify_points(s.v, s.closed, room)?;
+    let v = &room[..3 * n];
+    Ok(Stored {
+        v,
+        near: s.v,
+        closed: s.closed,
+    })
+}
+
+// A simplified copy of the shorter string, as it stands in `short`, against the longer, and then against a simplified copy of the longer.
+fn equals_longer(short: Stored, longer: Stored) -> Result<bool, Refusal>
+    ensures { answer_of result ≡ equals_longer (string_of short.entry) (string_of longer.entry) }
+{
+    if inner::equal_strings(short, longer) {
+        return Ok(true);
     }
     let mut long = [0.0; MOST_FLOATS];
-    let second = arcstring_rounds::inner::simplify_points(longer, longer_closed, &mut long);
-    match second {
-        Written::Refused(e) => Decided::Refused(e),
-        Written::Vertices(n) => {
-            let end = 3 * n;
-            Decided::Verdict(inner::equal_strings(
-                short,
-                short_near,
-                short_closed,
-                &long[..end],
-                longer,
-                longer_closed,
-            ))
-        }
-    }
+    let copy = simplified_copy(longer, &mut long)?;
+    Ok(inner::equal_strings(short, copy))
 }
 
 // The shorter string simplified, and then the longer too.
-fn equals_simplified(
-    shorter: &[f64],
-    shorter_closed: bool,
-    longer: &[f64],
-    longer_near: &[f64],
-    longer_closed: bool,
-) -> Decided
-    requires { (stored_check shorter.now ≡ 0) × (stored_check longer.now ≡ 0) × (stored_check longer_near.now ≡ 0) }
-    ensures { decided_answer result ≡ equals_simplified (stored shorter.now shorter.now shorter_closed)
-        (stored longer.now longer_near.now longer_closed) }
+fn equals_simplified(shorter: Stored, longer: Stored) -> Result<bool, Refusal>
+    ensures { answer_of result ≡ equals_simplified (string_of shorter.entry) (string_of longer.entry) }
 {
     let mut short = [0.0; MOST_FLOATS];
-    let first = arcstring_rounds::inner::simplify_points(shorter, shorter_closed, &mut short);
-    match first {
-        Written::Refused(e) => Decided::Refused(e),
-        Written::Vertices(n) => {
-            let end = 3 * n;
-            equals_longer(
-                &short[..end],
-                shorter,
-                shorter_closed,
-                longer,
-                longer_near,
-                longer_closed,
-            )
-        }
-    }
+    let copy = simplified_copy(shorter, &mut short)?;
+    equals_longer(copy, longer)
 }
 
 // `equals` of two accepted strings.
-fn equals_strings(
-    a: &[f64],
-    a_near: &[f64],
-    a_closed: bool,
-    b: &[f64],
-    b_near: &[f64],
-    b_closed: bool,
-) -> Decided
-    requires { (stored_check a.now ≡ 0) × (stored_check a_near.now ≡ 0) × (stored_check b.now ≡ 0) × (stored_check b_near.now ≡ 0) }
-    ensures { decided_answer result ≡ equals_string (stored a.now a_near.now a_closed)
-        (stored b.now b_near.now b_closed) }
+fn equals_strings(a: Stored, b: Stored) -> Result<bool, Refusal>
+    ensures { answer_of result ≡ equals_string (string_of a.entry) (string_of b.entry) }
 {
-    if inner::equal_strings(a, a_near, a_closed, b, b_near, b_closed) {
-        return Decided::Verdict(true);
+    if inner::equal_strings(a, b) {
+        return Ok(true);
     }
-    if a.len() / 3 < b.len() / 3 {
-        return equals_simplified(a, a_closed, b, b_near, b_closed);
+    if a.v.len() < b.v.len() {
+        equals_simplified(a, b)
+    } else {
+        equals_simplified(b, a)
     }
-    equals_simplified(b, b_closed, a, a_near, a_closed)
 }
 
 // Whether two strings are equal as the source's `equals` has it: by `==`, or once copies of them are simplified. Refuses by 1,
@@ -117,92 +76,50 @@ pub fn equals(
     b: &[f64],
     b_near: &[f64],
     b_closed: bool,
-) -> Decided
-    ensures { decided_answer result ≡ Relation.equals a.now a_near.now a_closed b.now
+) -> Result<bool, Refusal>
+    ensures { answer_of result ≡ Relation.equals a.now a_near.now a_closed b.now
         b_near.now b_closed }
 {
-    let checked = inner::check_two(a, a_near, b, b_near);
-    match checked {
-        Checked::Refused(e) => Decided::Refused(e),
-        Checked::Accepted => equals_strings(a, a_near, a_closed, b, b_near, b_closed),
-    }
+    let a = Stored::accept(a, a_near, a_closed)?;
+    let b = Stored::accept(b, b_near, b_closed)?;
+    equals_strings(a, b)
 }
 
 // Whether a leg of `a` has both ends along the other string. The last leg of a closed string reads past its last vertex.
-fn overlap_legs(a: &[f64], a_closed: bool, b: &[f64], b_near: &[f64], b_closed: bool) -> Decided
-    requires { (stored_check a.now ≡ 0) × (stored_check b.now ≡ 0) × (stored_check b_near.now ≡ 0) }
-    ensures { decided_answer result ≡ overlap_legs (stored b.now b_near.now b_closed) a_closed (points a.now) }
+fn overlap_legs(a: Stored, b: Stored) -> Result<bool, Refusal>
+    ensures { answer_of result ≡ overlap_legs (string_of b.entry) a.entry.closed (points a.entry.v.now) }
 {
-    let n = a.len() / 3;
-    let mut k = 1;
-    while k < n {
-        if !along::along_string(vertex::vertex_at(a, k - 1), b, b_near, b_closed) {
-            k += 1;
-            continue;
+    let string = a.vertices();
+    for k in 1..string.n {
+        if along_string(string.at(k - 1), b) && along_string(string.at(k), b) {
+            return Ok(true);
         }
-        if along::along_string(vertex::vertex_at(a, k), b, b_near, b_closed) {
-            return Decided::Verdict(true);
-        }
-        k += 1;
     }
-    if a_closed {
-        return Decided::Refused(Refusal::ReadsPastEnd);
+    if a.closed {
+        return Err(Refusal::ReadsPastEnd);
     }
-    Decided::Verdict(false)
+    Ok(false)
 }
 
 // Neither of two strings within the other, and such a leg.
-fn overlaps_apart(
-    a: &[f64],
-    a_near: &[f64],
-    a_closed: bool,
-    b: &[f64],
-    b_near: &[f64],
-    b_closed: bool,
-) -> Decided
-    requires { (stored_check a.now ≡ 0) × (stored_check a_near.now ≡ 0) × (stored_check b.now ≡ 0) × (stored_check b_near.now ≡ 0) }
-    ensures { decided_answer result ≡ overlaps_apart (stored a.now a_near.now a_closed)
-        (stored b.now b_near.now b_closed) }
+fn overlaps_apart(a: Stored, b: Stored) -> Result<bool, Refusal>
+    ensures { answer_of result ≡ overlaps_apart (string_of a.entry) (string_of b.entry) }
 {
-    if inner::all_along(a, b, b_near, b_closed) {
-        return Decided::Verdict(false);
+    if !inner::apart(a, b) {
+        return Ok(false);
     }
-    if inner::all_along(b, a, a_near, a_closed) {
-        return Decided::Verdict(false);
-    }
-    overlap_legs(a, a_closed, b, b_near, b_closed)
+    overlap_legs(a, b)
 }
 
 // Whether the simplified copies of two accepted strings are `equals`.
-fn same_simplified(a: &[f64], a_closed: bool, b: &[f64], b_closed: bool) -> Decided
-    requires { (stored_check a.now ≡ 0) × (stored_check b.now ≡ 0) }
-    ensures { decided_answer result ≡ same_simplified (stored a.now a.now a_closed)
-        (stored b.now b.now b_closed) }
+fn same_simplified(a: Stored, b: Stored) -> Result<bool, Refusal>
+    ensures { answer_of result ≡ same_simplified (string_of a.entry) (string_of b.entry) }
 {
     let mut simple_a = [0.0; MOST_FLOATS];
-    let first = arcstring_rounds::inner::simplify_points(a, a_closed, &mut simple_a);
-    match first {
-        Written::Refused(e) => Decided::Refused(e),
-        Written::Vertices(n) => {
-            let mut simple_b = [0.0; MOST_FLOATS];
-            let second = arcstring_rounds::inner::simplify_points(b, b_closed, &mut simple_b);
-            match second {
-                Written::Refused(e) => Decided::Refused(e),
-                Written::Vertices(m) => {
-                    let a_end = 3 * n;
-                    let b_end = 3 * m;
-                    equals_strings(
-                        &simple_a[..a_end],
-                        a,
-                        a_closed,
-                        &simple_b[..b_end],
-                        b,
-                        b_closed,
-                    )
-                }
-            }
-        }
-    }
+    let first = simplified_copy(a, &mut simple_a)?;
+    let mut simple_b = [0.0; MOST_FLOATS];
+    let second = simplified_copy(b, &mut simple_b)?;
+    equals_strings(first, second)
 }
 
 // Whether two strings overlap as the source has it: simplified copies of them are `equals`, neither is within the other, and a
@@ -215,22 +132,16 @@ pub fn overlaps(
     b: &[f64],
     b_near: &[f64],
     b_closed: bool,
-) -> Decided
-    ensures { decided_answer result ≡ Relation.overlaps a.now a_near.now a_closed b.now
+) -> Result<bool, Refusal>
+    ensures { answer_of result ≡ Relation.overlaps a.now a_near.now a_closed b.now
         b_near.now b_closed }
 {
-    let checked = inner::check_two(a, a_near, b, b_near);
-    if let Checked::Refused(e) = checked {
-        return Decided::Refused(e);
-    }
-    let same = same_simplified(a, a_closed, b, b_closed);
-    match same {
-        Decided::Refused(e) => Decided::Refused(e),
-        Decided::Verdict(yes) => {
-            if !yes {
-                return Decided::Verdict(false);
-            }
-            overlaps_apart(a, a_near, a_closed, b, b_near, b_closed)
-        }
+    let a = Stored::accept(a, a_near, a_closed)?;
+    let b = Stored::accept(b, b_near, b_closed)?;
+    let same = same_simplified(a, b)?;
+    if same {
+        overlaps_apart(a, b)
+    } else {
+        Ok(false)
     }
 }

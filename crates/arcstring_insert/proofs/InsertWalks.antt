@@ -97,16 +97,3 @@ walk_begin x w bs n legs closed room many count =
     let e : legs - 0 ≡ legs = omega arith in
     ap (λ (j : ℕ). insert_walk place_of x 0 j (first_vertices n w bs))
     (e ∙ count ∙ ap (λ (m : ℕ). leg_count m closed) (sym (length_vertices n w bs room many)))
-
--- ---- the numbers of the walk: m vertices stand in lists of 1,024, leg i of `legs` starts at k
-
-module _ (legs i k m room buoy_room : ℕ) (more : i < legs) (ahead : k + (legs - i) ≤ m) (most : m ≤ most_points)
-    (wide : room ≡ 3 * most_points) (long : buoy_room ≡ most_points) where
-  pub leg-within : (3 * m ≤ room) × (m ≤ buoy_room) × (k < m)
-  leg-within = (omega arith, omega arith, omega arith)
-
-  pub past_numbers : (i + 1 ≤ legs) × (k + 1 + (legs - (i + 1)) ≤ m)
-  past_numbers = (omega arith, omega arith)
-
-  pub on_numbers : (m ≡ most_points → ⊥) → (i + 1 ≤ legs) × (k + 2 + (legs - (i + 1)) ≤ m + 1) × (m + 1 ≤ most_points) × (m < most_points)
-  on_numbers some = (omega arith, omega arith, omega arith, omega arith)

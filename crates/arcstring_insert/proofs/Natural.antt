@@ -67,11 +67,13 @@ module _ {A B : Type 0} (f : A → B) where
         let put = limited (length (insert_at k x xs)) (insert_at k x xs) in
         let next = insert_walk pt (f x) (k + 2) left in
         let after = and_then (limited (length (insert_at k (f x) (map f xs))) (insert_at k (f x) (map f xs))) next in
-        map_picked (map f) (along_leg (made x) (leg_from (map made xs) k)) (and_then put (insert_walk made x (k + 2) left)) (insert_walk made x (k + 1) left xs)
+        map_picked (map f) (along_leg (made x) (leg_from (map made xs) k)) (and_then put (insert_walk made x (k + 2) left))
+        (insert_walk made x (k + 1) left xs)
         ∙ ap₂ (λ (a b : Answer (List B)). pick (along_leg (made x) (leg_from (map made xs) k)) a b)
         (map_then (map f) put (insert_walk made x (k + 2) left) next (map_walk x (k + 2) left) ∙ ap (λ (a : Answer (List B)). and_then a next) (map_put k x xs))
         (map_walk x (k + 1) left xs)
-        ∙ ap (λ (ps : List SphericalPoint). pick (along_leg (made x) (leg_from ps k)) after (insert_walk pt (f x) (k + 1) left (map f xs))) (sym (map-map pt f xs))
+        ∙ ap (λ (ps : List SphericalPoint). pick (along_leg (made x) (leg_from ps k)) after (insert_walk pt (f x) (k + 1) left (map f xs)))
+        (sym (map-map pt f xs))
 
     map-point : (closed : Bool) (x : A) (xs : List A) → map_answer (map f) (insert_point made closed x xs) ≡ insert_point pt closed (f x) (map f xs)
     unfolding insert_point

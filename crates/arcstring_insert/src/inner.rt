@@ -14,11 +14,7 @@ pub fn insert_vertex(work: &mut [f64], n: usize, k: usize, p: SphericalPoint)
     ensures { work.new ≡ splice work.old (3 * k)
         (p.x ∷ p.y ∷ p.z ∷ take (3 * (n - k)) (drop (3 * k) work.old)) }
 {
-    let mut i = n;
-    while i > k {
-        vertex::put_vertex(work, i, vertex::vertex_at(work, i - 1));
-        i -= 1;
-    }
+    work.copy_within(3 * k..3 * n, 3 * k + 3);
     vertex::put_vertex(work, k, p);
 }
 
@@ -27,11 +23,7 @@ fn insert_buoy(buoys: &mut [u32], n: usize, k: usize, buoy: u32)
     requires { (k ≤ n) × (n < length buoys.old) }
     ensures { buoys.new ≡ splice buoys.old k (buoy ∷ take (n - k) (drop k buoys.old)) }
 {
-    let mut i = n;
-    while i > k {
-        buoys[i] = buoys[i - 1];
-        i -= 1;
-    }
+    buoys.copy_within(k..n, k + 1);
     buoys[k] = buoy;
 }
 

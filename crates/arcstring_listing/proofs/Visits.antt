@@ -2,7 +2,7 @@
 use mathlib.Core.Path.{◌≡◌, refl, ap, ap₂, ◌∙◌}
 use mathlib.Core.Bool.{Bool, true, false, not, ◌&&◌}
 use mathlib.Core.List.{List, [], ◌∷◌, map, append-nil}
-use Prim.Native.Nat.{ℕ, ◌/◌, ◌-◌, ◌*◌, ◌≤◌}
+use Prim.Native.Nat.{ℕ, ◌/◌, ◌*◌, ◌≤◌}
 use native.Mathlib.Omega.{arith}
 use lib.ListN.{length}
 use lib.Ieee.{Float}
@@ -19,21 +19,23 @@ use Rattle.arcstring_tally.specs.Pairs.{pairs_between, kept_marks}
 use Rattle.arcstring_listing.specs.Listing.{visited, leg_pairs}
 use Rattle.arcstring_visit.proofs.Rows.{kept_between}
 
-module _ (v : List Float) (closed : Bool) (l : ℕ) (accepted : stored_check v ≡ 0) (count : l ≡ leg_count (length v / 3) closed) where
-  pub all_legs : legs_from v 0 l ≡ legs (points v) closed
-  all_legs = ap (legs_from v 0) count ∙ legs_whole v (length v / 3) closed (stored_whole v accepted).triples
+pub all_legs : (v : List Float) (closed : Bool) (l : ℕ) → stored_check v ≡ 0 → l ≡ leg_count (length v / 3) closed → legs_from v 0 l ≡ legs (points v) closed
+all_legs v closed l accepted count = ap (legs_from v 0) count ∙ legs_whole v (length v / 3) closed (stored_whole v accepted).triples
 
-pub two_visits : (margin : Float) (a : List Float) (a_closed : Bool) (la : ℕ) (b : List Float) (b-closed : Bool) (lb : ℕ) → stored_check a ≡ 0 → la
-    ≡ leg_count (length a / 3) a_closed
-    → stored_check b ≡ 0 → lb ≡ leg_count (length b / 3) b-closed → pairs_between margin (legs_from a 0 la) (legs_from b 0 lb)
-    ≡ visited margin a a_closed b b-closed
-unfolding visited
-two_visits margin a a_closed la b b-closed lb oka ca okb cb = ap₂ (pairs_between margin) (all_legs a a_closed la oka ca) (all_legs b b-closed lb okb cb)
+module _ (margin : Float) (a : List Float) (a_closed : Bool) (b : List Float) (b_closed : Bool) where
+  pub two_visits : (ls rs : List Leg) → ls ≡ legs (points a) a_closed → rs ≡ legs (points b) b_closed → pairs_between margin ls rs
+      ≡ visited margin a a_closed b b_closed
+  unfolding visited
+  two_visits ls rs h k = ap₂ (pairs_between margin) h k
 
-pub kept_two : (margin : Float) (a : List Float) (a_closed : Bool) (la : ℕ) (b : List Float) (b-closed : Bool) (lb : ℕ) → stored_check a ≡ 0 → la
-    ≡ leg_count (length a / 3) a_closed
-    → stored_check b ≡ 0 → lb ≡ leg_count (length b / 3) b-closed → length (kept_marks (visited margin a a_closed b b-closed)) ≤ la * lb
-kept_two margin a a_closed la b b-closed lb oka ca okb cb = rw (← two_visits margin a a_closed la b b-closed lb oka ca okb cb) (kept_between margin a b la lb)
+  pub kept_two : (v : List Float) (la : ℕ) (w : List Float) (lb : ℕ) → legs_from v 0 la ≡ legs (points a) a_closed → legs_from w 0 lb ≡ legs (points b) b_closed
+      → length (kept_marks (visited margin a a_closed b b_closed)) ≤ la * lb
+  kept_two v la w lb h k = rw (← two_visits _ _ h k) (kept_between margin v w la lb)
+
+-- the same strings by other names
+pub visited_as : (margin : Float) (a c : List Float) (a_closed c_closed : Bool) (b d : List Float) (b_closed d_closed : Bool) → a ≡ c → a_closed ≡ c_closed
+    → b ≡ d → b_closed ≡ d_closed → visited margin a a_closed b b_closed ≡ visited margin c c_closed d d_closed
+visited_as margin a c a_closed c_closed b d b_closed d_closed h i j k = rw (h, i, j, k)
 
 -- ---- a leg as a string of two vertices
 

@@ -1,6 +1,6 @@
 -- The counts of the pairs that two strings have, and the listings of what they keep; and of a leg and a string. Definitions only.
 use Rattle.std.specs.Prelude.{Bool, List, map, ℕ, ◌*◌, ◌%◌, length, eqb, Float}
-use Rattle.arcstring_check.specs.Answer.{Answer, refused, answered, unless_refused, map_answer, refusal_number}
+use Rattle.arcstring_check.specs.Answer.{Answer, answered, unless_refused, map_answer}
 use Rattle.arcstring.specs.Points.{points, flat}
 use Rattle.arcstring_check.specs.Check.{stored_check, margin_check, no_margin, room_check}
 use Rattle.arcstring_pair.specs.declared.pair.Pair.{Pair}
@@ -8,10 +8,6 @@ use Rattle.arcstring.specs.Leg.{Leg, leg_check, legs}
 use Rattle.arcstring_pair.specs.Pair.{pair_of}
 use Rattle.arcstring_tally.specs.declared.counts.Counts.{Counts}
 use Rattle.arcstring_tally.specs.Pairs.{pairs_between, counts_of, Mark, kept_marks, mark_point, mark_byte}
-use Rattle.arcstring_listing.specs.declared.listing.Counted.{Counted}
-use Rattle.arcstring_listing.specs.declared.listing.Counted.TheVariants as C
-use Rattle.arcstring_listing.specs.declared.listing.Listed.{Listed}
-use Rattle.arcstring_listing.specs.declared.listing.Listed.TheVariants as L
 
 -- ---- a listing: the kept points in sequence, with the counts of all visited pairs
 
@@ -41,7 +37,8 @@ counted a a_closed b b_closed margin =
 unfoldable pub crossings : List Float → Bool → List Float → Bool → Float → ℕ → ℕ → Answer Listing
 crossings a a_closed b b_closed margin points_room marks_room =
     unless_refused (stored_check a)
-    (unless_refused (stored_check b) (unless_refused (margin_check margin) (in_room (listing_of (visited margin a a_closed b b_closed)) points_room marks_room)))
+    (unless_refused (stored_check b) (unless_refused (margin_check margin)
+    (in_room (listing_of (visited margin a a_closed b b_closed)) points_room marks_room)))
 
 -- one leg against a string
 unfoldable pub leg_pairs : Float → Leg → List Float → Bool → List Pair
@@ -58,15 +55,6 @@ same_side l v closed =
     unless_refused (leg_check l) (unless_refused (stored_check v) (answered (eqb (length (kept_marks (leg_pairs no_margin l v closed)) % 2) 0)))
 
 -- ---- what is answered, and what is written
-
-abbrev pub counted_answer : Counted → Answer Counts
-counted_answer (C.Counts c) = answered c
-counted_answer (C.Refused e) = refused (refusal_number e)
-
--- how many kept points, and the counts
-abbrev pub listed_answer : Listed → Answer (ℕ × Counts)
-listed_answer (L.Listing n c) = answered (n, c)
-listed_answer (L.Refused e) = refused (refusal_number e)
 
 abbrev pub listed_result : Answer Listing → Answer (ℕ × Counts)
 listed_result a = map_answer (λ (l : Listing). (length l.marks, l.counts)) a

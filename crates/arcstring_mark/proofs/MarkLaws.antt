@@ -6,7 +6,8 @@ use Rattle.ieee754.specs.Size.{abs}
 use Rattle.ieee754.proofs.Tests.{never}
 use Rattle.square_root.specs.Sqrt.{sqrt_of}
 use Rattle.sphericalpoint.specs.declared.SphericalPoint.{SphericalPoint}
-use Rattle.sphericalpoint.specs.Vector.{equality_tolerance, coplanar_tolerance, xyz_add, xyz_sub, xyz_mul, xyz_abs, xyz_sum, xyz_dot, xyz_cross, xyz_length, xyz_eq}
+use Rattle.sphericalpoint.specs.Vector.{equality_tolerance, coplanar_tolerance, xyz_add, xyz_sub, xyz_mul, xyz_abs, xyz_sum, xyz_dot}
+use Rattle.sphericalpoint.specs.Vector.{xyz_cross, xyz_length, xyz_eq}
 use Rattle.arcstring.specs.Leg.{Leg}
 use Rattle.arcstring_mark.specs.Mark.{inside_leg, mark_on_leg}
 use Rattle.arcstring_mark.specs.MarkLaws.{equals_end, EndsHeld, OthersBetween, BetweenHeld, ShortHoldsEnds, AntipodalHoldsEnds, KnownMarks}
@@ -57,6 +58,6 @@ antipodal_holds_ends p l h =
 -- ---- some marks, computed
 
 pub known_marks : KnownMarks
-unfolding mark_on_leg inside_leg equality_tolerance coplanar_tolerance xyz_add xyz_sub xyz_mul xyz_abs xyz_sum xyz_dot xyz_cross xyz_length xyz_eq sqrt_of abs add sub mul div
-    neg lt eq le round
+unfolding mark_on_leg inside_leg equality_tolerance coplanar_tolerance xyz_add xyz_sub xyz_mul xyz_abs xyz_sum xyz_dot xyz_cross xyz_length xyz_eq sqrt_of
+    abs add sub mul div neg lt eq le round
 known_marks = record { quarter = refl; long = refl; none = refl }

@@ -1,6 +1,6 @@
 // Whether a mark lies on a leg, and on a string.
 ghost use Rattle.std.specs.Prelude.{◌≡◌};
-ghost use Rattle.arcstring_check.specs.Answer.{decided_answer};
+ghost use Rattle.arcstring_check.specs.Answer.{answer_of};
 ghost use Rattle.arcstring_check.specs.Check.{stored_check};
 ghost use Rattle.arcstring.specs.Points.{points};
 ghost use Rattle.arcstring.specs.Leg.{leg_of};
@@ -8,8 +8,8 @@ ghost use Rattle.arcstring_mark.specs.Mark.{mark_on_leg, mark_on_string, on_leg,
 
 use crate::inner::holds;
 use arcstring::inner::leg;
-use arcstring_along::inner::along::Found;
-use arcstring_check::check::{Checked, Decided};
+use arcstring::inner::vertex::Vertices;
+use arcstring_check::check::Refusal;
 use arcstring_check::inner::checks;
 use sphericalpoint::SphericalPoint;
 
@@ -23,14 +23,12 @@ fn arc_holds(arc: [[f64; 3]; 2], p: SphericalPoint) -> bool
 }
 
 // Whether a mark lies on a leg: it equals an end, or lies inside. Refuses by 4 of the leg, then of the mark.
-pub fn mark_on_leg(arc: [[f64; 3]; 2], p: SphericalPoint) -> Decided
-    ensures { decided_answer result ≡ on_leg (leg_of arc) p }
+pub fn mark_on_leg(arc: [[f64; 3]; 2], p: SphericalPoint) -> Result<bool, Refusal>
+    ensures { answer_of result ≡ on_leg (leg_of arc) p }
 {
-    let checked = checks::first_of(leg::check_leg(arc), checks::check_point(p));
-    match checked {
-        Checked::Refused(e) => Decided::Refused(e),
-        Checked::Accepted => Decided::Verdict(arc_holds(arc, p)),
-    }
+    leg::check_leg(arc)?;
+    checks::check_point(p)?;
+    Ok(arc_holds(arc, p))
 }
 
 // Whether a leg of an accepted string holds a mark.
@@ -38,21 +36,15 @@ fn string_holds(p: SphericalPoint, v: &[f64], closed: bool) -> bool
     requires { stored_check v.now ≡ 0 }
     ensures { result ≡ mark_on_string p (points v.now) closed }
 {
-    let n = v.len() / 3;
-    let found = holds::first_leg(p, v, n, leg::leg_count(n, closed));
-    match found {
-        Found::At(_) => true,
-        Found::Nothing => false,
-    }
+    let string = Vertices::of(v);
+    holds::first_leg(p, string, leg::leg_count(string.n, closed)).is_some()
 }
 
 // Whether a mark lies on a string: some leg holds it. Refuses by 1, 3 and 4 of the vertices, then by 4 of the mark.
-pub fn mark_on_string(p: SphericalPoint, v: &[f64], closed: bool) -> Decided
-    ensures { decided_answer result ≡ on_string p v.now closed }
+pub fn mark_on_string(p: SphericalPoint, v: &[f64], closed: bool) -> Result<bool, Refusal>
+    ensures { answer_of result ≡ on_string p v.now closed }
 {
-    let checked = checks::first_of(checks::check_stored(v), checks::check_point(p));
-    match checked {
-        Checked::Refused(e) => Decided::Refused(e),
-        Checked::Accepted => Decided::Verdict(string_holds(p, v, closed)),
-    }
+    checks::check_stored(v)?;
+    checks::check_point(p)?;
+    Ok(string_holds(p, v, closed))
 }

@@ -1,5 +1,6 @@
--- Marks one after another: those that are left, from the pieces that stand in the local lists, give the whole answer. One mark more, a refusal, and the end.
+-- Marks one after another: those that are left, from the pieces that stand in the string, give the whole answer. One mark more, a refusal, and the end.
 -- Assumes nothing.
+use Rattle.std.specs.Prelude.{Ok, Err}
 use mathlib.Core.Path.{◌≡◌, refl, sym, ap, ◌∙◌}
 use mathlib.Core.List.{List, ◌∷◌}
 use Prim.Native.Nat.{ℕ, ◌+◌, ◌*◌, ◌≤◌, ◌<◌}
@@ -15,44 +16,36 @@ use Rattle.arcstring.proofs.Flat.{length-points}
 use Rattle.arcstring.proofs.Numbered.{length-numbered}
 use Rattle.arcstring_insert.specs.Steps.{for_each}
 use Rattle.arcstring_insert.proofs.Steps.{each_on, each_stops, each_end, vertices_next}
-use Rattle.arcstring_split_leg.specs.declared.inner.Cut.{Cut}
-use Rattle.arcstring_split_leg.specs.declared.inner.Cut.TheVariants as C
+use Rattle.arcstring_mark_cut.specs.declared.pieces.Opened.{Opened}
 use Rattle.arcstring_mark_cut.specs.CutAtMarks.{cut_at_mark}
-use Rattle.arcstring_mark_cut.specs.Standing.{standing, still_standing}
+use Rattle.arcstring_mark_cut.specs.OpenedPieces.{pieces_of, still_standing}
 
--- m pieces stand in the lists, and i of the marks `extra`, `es` are done
-module _ (extra : List Float) (es : List ℕ) (triples : length extra ≡ 3 * length es) (work : List Float) (buoys counts : List ℕ) (m i : ℕ)
-    (whole : Answer (List (List Vertex)))
-    (rest : for_each (cut_at_mark place_of) (drop i (numbered (points extra) es)) (standing m work buoys counts) ≡ whole) where
+-- s the string when i of the marks `extra`, `es` are done
+module _ (extra : List Float) (es : List ℕ) (triples : length extra ≡ 3 * length es) (s : Opened) (i : ℕ) (whole : Answer (List (List Vertex)))
+    (rest : for_each (cut_at_mark place_of) (drop i (numbered (points extra) es)) (pieces_of s) ≡ whole) where
   abbrev marks : List Vertex
   marks = numbered (points extra) es
 
-  abbrev ps : List (List Vertex)
-  ps = standing m work buoys counts
-
   -- none left
-  pub marks_end : length es ≤ i → answered ps ≡ whole
+  pub marks_end : length es ≤ i → answered (pieces_of s) ≡ whole
   marks_end h =
       let n = length-points (length es) extra triples in
-      sym (each_end (cut_at_mark place_of) marks i ps (omega (arith, length-numbered (points extra) es (sym n)))) ∙ rest
+      sym (each_end (cut_at_mark place_of) marks i (pieces_of s) (omega (arith, length-numbered (points extra) es (sym n)))) ∙ rest
 
-  -- x is mark i, `cut` is what it answers, and the lists after it
-  module _ (x : Vertex) (cut : Cut) (work' : List Float) (buoys' counts' : List ℕ) (more : i < length es) (read : x ≡ vertex_at extra es i)
-      (done : still_standing cut work' buoys' counts' ≡ cut_at_mark place_of x ps) where
+  -- x is mark i, t the string after it
+  module _ (x : Vertex) (t : Opened) (more : i < length es) (read : x ≡ vertex_at extra es i) where
     next : drop i marks ≡ vertex_at extra es i ∷ drop (i + 1) marks
     next = vertices_next extra es (length es) i triples refl more
 
-    answer : (c : Cut) → cut ≡ c → cut_at_mark place_of (vertex_at extra es i) ps ≡ still_standing c work' buoys' counts'
-    answer c told =
-        ap (λ (y : Vertex). cut_at_mark place_of y ps) (sym read) ∙ sym done ∙ ap (λ (d : Cut). still_standing d work' buoys' counts') told
+    answer : (a : Answer (List (List Vertex))) → a ≡ cut_at_mark place_of x (pieces_of s) → cut_at_mark place_of (vertex_at extra es i) (pieces_of s) ≡ a
+    answer a done = ap (λ (y : Vertex). cut_at_mark place_of y (pieces_of s)) (sym read) ∙ sym done
 
-    pub marks_stop : (e : Refusal) → cut ≡ C.Refused e → still_standing cut work' buoys' counts' ≡ whole
-    marks_stop e told =
-        ap (λ (d : Cut). still_standing d work' buoys' counts') told
-        ∙ sym (each_stops (cut_at_mark place_of) marks i ps (vertex_at extra es i) next (refusal_number e) (answer (C.Refused e) told))
+    pub marks_stop : (e : Refusal) → still_standing (Err e) t ≡ cut_at_mark place_of x (pieces_of s) → still_standing (Err e) t ≡ whole
+    marks_stop e done =
+        sym (each_stops (cut_at_mark place_of) marks i (pieces_of s) (vertex_at extra es i) next (refusal_number e) (answer (still_standing (Err e) t) done))
         ∙ rest
 
-    pub marks_on : (longer : ℕ) → cut ≡ C.Pieces longer
-        → for_each (cut_at_mark place_of) (drop (i + 1) marks) (standing longer work' buoys' counts') ≡ whole
-    marks_on longer told =
-        sym (each_on (cut_at_mark place_of) marks i ps (vertex_at extra es i) next (standing longer work' buoys' counts') (answer (C.Pieces longer) told)) ∙ rest
+    pub marks_on : still_standing (Ok tt) t ≡ cut_at_mark place_of x (pieces_of s)
+        → for_each (cut_at_mark place_of) (drop (i + 1) marks) (pieces_of t) ≡ whole
+    marks_on done =
+        sym (each_on (cut_at_mark place_of) marks i (pieces_of s) (vertex_at extra es i) next (pieces_of t) (answer (still_standing (Ok tt) t) done)) ∙ rest

@@ -1,16 +1,16 @@
 -- What a cut at marks answers, and the three buffers after it, from the pieces that stand in the local lists. Assumes nothing.
-use mathlib.Core.Path.{◌≡◌, refl, sym, ap, ap₂, ◌∙◌, subst}
+use mathlib.Core.Path.{◌≡◌, refl, sym, ap, ap₂, ◌∙◌}
 use mathlib.Core.Bool.{Bool, true, false, ◌||◌, true≢false}
-use mathlib.Core.List.{List, ◌++◌, map}
+use mathlib.Core.List.{List, map}
 use mathlib.Core.Option.{Option, none, some}
 use Prim.Native.Nat.{ℕ, ◌+◌, ◌-◌, ◌*◌, ◌≤◌, ◌<◌}
 use native.Mathlib.Omega.{arith}
 use lib.Dec.{ltb}
 use lib.Ieee.{Float}
-use lib.ListN.{length, take, drop, length-map}
+use lib.ListN.{length, take, length-map}
 use borrow.Author.Tests.{ltb-false}
-use Rattle.arcstring_check.specs.declared.check.Refusal.{Refusal}
-use Rattle.arcstring_check.specs.Answer.{Answer, refused, answered, number_if, first_of, unless_refused, map_answer, and_then, leaves, refusal_number}
+use Rattle.arcstring_mark_cut.specs.declared.pieces.Opened.{Opened}
+use Rattle.arcstring_check.specs.Answer.{Answer, refused, answered, number_if, first_of, unless_refused, map_answer, leaves}
 use Rattle.arcstring_check.specs.Check.{room_check, rooms_check}
 use Rattle.arcstring.specs.declared.inner.vertex.Vertex.{Vertex}
 use Rattle.arcstring.specs.Points.{StringOf, numbered, place_of, points, flat}
@@ -18,14 +18,13 @@ use Rattle.arcstring.specs.Splice.{splice}
 use Rattle.arcstring.specs.Written.{points_in, piece_floats, piece_buoys, piece_counts}
 use Rattle.arcstring.proofs.Flat.{flat-points, take-flat}
 use Rattle.arcstring.proofs.Numbered.{map-take, all_places, all_buoys}
-use Rattle.arcstring.proofs.Splices.{splice-start, splice_front}
-use Rattle.arcstring_split_leg.specs.declared.inner.Cut.{Cut}
-use Rattle.arcstring_split_leg.specs.declared.inner.Cut.TheVariants as C
+use Rattle.arcstring.proofs.Splices.{splice-start}
 use Rattle.arcstring_split_leg.specs.SplitLeg.{unless_uncut, piece_count, of_pieces}
 use Rattle.arcstring_split_leg.proofs.Uncut.{one_uncut, two_cut}
 use Rattle.arcstring_piece.specs.Pieces.{sum}
 use Rattle.arcstring_mark_cut.specs.CutAtMarks.{open_string, cut_into}
-use Rattle.arcstring_mark_cut.specs.Standing.{opened_room, standing, still_standing, handed_over, Stands, Left}
+use Rattle.arcstring_mark_cut.specs.Standing.{opened_room, standing}
+use Rattle.arcstring_mark_cut.specs.OpenedPieces.{pieces_of, handed_over}
 use Rattle.arcstring_mark_cut.proofs.InPieces.{in_length, in_counts, in_together}
 use Rattle.arcstring_mark_cut.proofs.OpenPieces.{floats_of, buoys_of_lem, counts_of_lem, points-together}
 use Rattle.arcstring_mark_cut.proofs.MarkCuts.{as_many, room_for_all, few_pieces, counts_length, all_points}
@@ -80,116 +79,97 @@ rooms_fit j k l w x y h =
 
 -- ---- handed over
 
--- the pieces still stand where they were not refused
-pub left_stand : (n : ℕ) (cut : Cut) (work : List Float) (buoys sizes : List ℕ) (m : ℕ) → cut ≡ C.Pieces m → Left n cut work buoys sizes
-    → Stands n m work buoys sizes
-left_stand n cut work buoys sizes m told h = subst (λ (c : Cut). Left n c work buoys sizes) told h
+module _ (s : Opened) (old : List Float) (old_buoys old_counts : List ℕ) where
+  abbrev xs : List Vertex
+  xs = numbered (points s.v) s.buoys
 
-module _ (n : ℕ) (cut : Cut) (work : List Float) (buoys sizes : List ℕ) (old : List Float) (old_buoys old_counts : List ℕ) where
+  abbrev ss : List (StringOf Vertex)
+  ss = map (open_string place_of) (pieces_of s)
+
   abbrev into : Option (List (StringOf Vertex)) → Answer (Option (List (StringOf Vertex)))
   into = cut_into (length old) (length old_buoys) (length old_counts)
 
   abbrev handed : Answer (Option (List (StringOf Vertex)))
-  handed = handed_over cut work buoys sizes (length old) (length old_buoys) (length old_counts)
+  handed = handed_over s (length old) (length old_buoys) (length old_counts)
 
-  by_cut : (c : Cut) → cut ≡ c
-      → handed ≡ and_then (still_standing c work buoys sizes) (λ (xss : List (List Vertex)). into (unless_uncut (map (open_string place_of) xss)))
-  by_cut c told =
-      ap (λ (d : Cut). and_then (still_standing d work buoys sizes) (λ (xss : List (List Vertex)). into (unless_uncut (map (open_string place_of) xss)))) told
+  ss_length : length ss ≡ s.count
+  unfolding standing
+  ss_length = length-map (pieces_of s) (open_string place_of) ∙ in_length (take s.count s.counts) xs ∙ counts_length s
 
-  pub handed_refusal : (e : Refusal) → cut ≡ C.Refused e → Handed handed old old_buoys old_counts (refused (refusal_number e)) old old_buoys old_counts
-  handed_refusal e told = handed_by old old_buoys old_counts (refused (refusal_number e)) handed (sym (by_cut (C.Refused e) told))
+  pub handed_uncut : s.count < 2 → Handed handed old old_buoys old_counts (answered none) old old_buoys old_counts
+  handed_uncut h =
+      let e : unless_uncut ss ≡ none = one_uncut ss (omega (arith, ss_length)) in
+      handed_by old old_buoys old_counts (answered none) handed (sym (ap into e))
 
-  module _ (m : ℕ) (told : cut ≡ C.Pieces m) (there : Left n cut work buoys sizes) where
-    abbrev xs : List Vertex
-    xs = numbered (points work) buoys
+  -- how many points there are, and room for them in the local lists
+  pub total-points : (sum (take s.count s.counts) ≡ s.points + 2 * (s.count - 1)) × (s.points + 2 * (s.count - 1) ≤ opened_room)
+      × (length s.v ≡ 3 * opened_room) × (length s.buoys ≡ opened_room) × (s.count ≤ length s.counts)
+  total-points =
+      let l = s.stands.limit in
+      let c = s.stands.counts-room in
+      let all = all_points s in
+      (all, omega arith, s.stands.floats, s.stands.buoys_room, omega (arith, few_pieces s))
 
-    abbrev ss : List (StringOf Vertex)
-    ss = map (open_string place_of) (standing m work buoys sizes)
+  module _ (two : 2 ≤ s.count) (total : ℕ) (all : total ≡ s.points + 2 * (s.count - 1)) where
+    summed : total ≡ sum (take s.count s.counts)
+    summed = all ∙ sym total-points.0
 
-    stand : Stands n m work buoys sizes
-    stand = left_stand n cut work buoys sizes m told there
+    enough : sum (take s.count s.counts) ≤ length xs
+    enough = let l = s.stands.limit in omega (arith, room_for_all s)
 
-    ss_length : length ss ≡ m
+    point_total : points_in ss ≡ total
     unfolding standing
-    ss_length = length-map (standing m work buoys sizes) (open_string place_of) ∙ in_length (take m sizes) xs ∙ counts_length n m work buoys sizes stand
+    point_total = points-together (pieces_of s) ∙ in_together (take s.count s.counts) xs enough ∙ sym summed
 
-    pub handed_uncut : m < 2 → Handed handed old old_buoys old_counts (answered none) old old_buoys old_counts
-    handed_uncut h =
-        let e : unless_uncut ss ≡ none = one_uncut ss (omega (arith, ss_length)) in
-        handed_by old old_buoys old_counts (answered none) handed (sym (by_cut (C.Pieces m) told ∙ ap into e))
+    -- whether one of the buffers is too short
+    abbrev short : Bool
+    short = (ltb (length old) (3 * total) || ltb (length old_buoys) total) || ltb (length old_counts) s.count
 
-    -- how many points there are, and room for them in the local lists
-    pub total-points : (sum (take m sizes) ≡ n + 2 * (m - 1)) × (n + 2 * (m - 1) ≤ opened_room)
-        × (length work ≡ 3 * opened_room) × (length buoys ≡ opened_room) × (m ≤ length sizes)
-    total-points =
-        let l = stand.limit in
-        let c = stand.counts-room in
-        let all = all_points n m work buoys sizes stand in
-        (all, omega arith, stand.floats, stand.buoys_room, omega (arith, few_pieces n m work buoys sizes stand))
+    by_rooms : (b : Bool) → short ≡ b → handed ≡ unless_refused (number_if b 7) (answered (some ss))
+    unfolding room_check rooms_check
+    by_rooms b h =
+        let e : unless_uncut ss ≡ some ss = two_cut ss (omega (arith, ss_length)) in
+        ap into e
+        ∙ (λ i. unless_refused (first_of (rooms_check (point_total i) (length old) (length old_buoys)) (room_check (ss_length i) (length old_counts)))
+        (answered (some ss)))
+        ∙ ap (λ (k : ℕ). unless_refused k (answered (some ss)))
+        (rooms_by (ltb (length old) (3 * total)) (ltb (length old_buoys) total) (ltb (length old_counts) s.count))
+        ∙ ap (λ (t : Bool). unless_refused (number_if t 7) (answered (some ss))) h
 
-    module _ (two : 2 ≤ m) (total : ℕ) (all : total ≡ n + 2 * (m - 1)) where
-      summed : total ≡ sum (take m sizes)
-      summed = all ∙ sym total-points.0
+    pub handed_no_room : short ≡ true → Handed handed old old_buoys old_counts (refused 7) old old_buoys old_counts
+    handed_no_room h = handed_by old old_buoys old_counts (refused 7) handed (sym (by_rooms true h))
 
-      enough : sum (take m sizes) ≤ length xs
-      enough = let l = stand.limit in omega (arith, room_for_all n m work buoys sizes stand)
+    floats_there : take (3 * total) s.v ≡ piece_floats ss
+    unfolding standing
+    floats_there =
+        ap₂ (λ (k : ℕ) (v : List Float). take (3 * k) v) summed (sym (flat-points opened_room s.v s.stands.floats))
+        ∙ take-flat (sum (take s.count s.counts)) (points s.v)
+        ∙ ap (λ ps. flat (take (sum (take s.count s.counts)) ps)) (sym (all_places (points s.v) s.buoys (as_many s)))
+        ∙ ap flat (sym (map-take place_of (sum (take s.count s.counts)) xs))
+        ∙ sym (floats_of (take s.count s.counts) xs)
 
-      point_total : points_in ss ≡ total
-      unfolding standing
-      point_total = points-together (standing m work buoys sizes) ∙ in_together (take m sizes) xs enough ∙ sym summed
+    buoys_there : take total s.buoys ≡ piece_buoys ss
+    unfolding standing
+    buoys_there =
+        ap₂ take summed (sym (all_buoys (points s.v) s.buoys (as_many s)))
+        ∙ sym (map-take (λ (x : Vertex). x.buoy) (sum (take s.count s.counts)) xs)
+        ∙ sym (buoys_of_lem (take s.count s.counts) xs)
 
-      -- whether one of the buffers is too short
-      abbrev short : Bool
-      short = (ltb (length old) (3 * total) || ltb (length old_buoys) total) || ltb (length old_counts) m
+    counts_there : take s.count s.counts ≡ piece_counts ss
+    unfolding standing
+    counts_there = sym (counts_of_lem (pieces_of s) ∙ in_counts (take s.count s.counts) xs enough)
 
-      by_rooms : (b : Bool) → short ≡ b → handed ≡ unless_refused (number_if b 7) (answered (some ss))
-      unfolding room_check rooms_check
-      by_rooms b h =
-          let e : unless_uncut ss ≡ some ss = two_cut ss (omega (arith, ss_length)) in
-          by_cut (C.Pieces m) told
-          ∙ ap into e
-          ∙ (λ i. unless_refused (first_of (rooms_check (point_total i) (length old) (length old_buoys)) (room_check (ss_length i) (length old_counts)))
-          (answered (some ss)))
-          ∙ ap (λ (k : ℕ). unless_refused k (answered (some ss)))
-          (rooms_by (ltb (length old) (3 * total)) (ltb (length old_buoys) total) (ltb (length old_counts) m))
-          ∙ ap (λ (t : Bool). unless_refused (number_if t 7) (answered (some ss))) h
-
-      pub handed_no_room : short ≡ true → Handed handed old old_buoys old_counts (refused 7) old old_buoys old_counts
-      handed_no_room h = handed_by old old_buoys old_counts (refused 7) handed (sym (by_rooms true h))
-
-      floats_there : take (3 * total) work ≡ piece_floats ss
-      unfolding standing
-      floats_there =
-          ap₂ (λ (k : ℕ) (v : List Float). take (3 * k) v) summed (sym (flat-points opened_room work stand.floats))
-          ∙ take-flat (sum (take m sizes)) (points work)
-          ∙ ap (λ ps. flat (take (sum (take m sizes)) ps)) (sym (all_places (points work) buoys (as_many n m work buoys sizes stand)))
-          ∙ ap flat (sym (map-take place_of (sum (take m sizes)) xs))
-          ∙ sym (floats_of (take m sizes) xs)
-
-      buoys_there : take total buoys ≡ piece_buoys ss
-      unfolding standing
-      buoys_there =
-          ap₂ take summed (sym (all_buoys (points work) buoys (as_many n m work buoys sizes stand)))
-          ∙ sym (map-take (λ (x : Vertex). x.buoy) (sum (take m sizes)) xs)
-          ∙ sym (buoys_of_lem (take m sizes) xs)
-
-      counts_there : take m sizes ≡ piece_counts ss
-      unfolding standing
-      counts_there = sym (counts_of_lem (standing m work buoys sizes) ∙ in_counts (take m sizes) xs enough)
-
-      pub handed_pieces : (out : List Float) (numbers counts : List ℕ) → short ≡ false → out ≡ splice old 0 (take (3 * total) work)
-          → numbers ≡ splice old_buoys 0 (take total buoys) → counts ≡ take m sizes ++ drop m old_counts
-          → Handed handed old old_buoys old_counts (answered (some m)) out numbers counts
-      handed_pieces out numbers counts h o b c =
-          let by = handed_by old old_buoys old_counts (answered (some ss)) handed (sym (by_rooms false h)) in (
-            ap (λ (j : ℕ). answered (some j)) (sym ss_length) ∙ by.0,
+    pub handed_pieces : (out : List Float) (numbers counts : List ℕ) → short ≡ false → out ≡ splice old 0 (take (3 * total) s.v)
+        → numbers ≡ splice old_buoys 0 (take total s.buoys) → counts ≡ splice old_counts 0 (take s.count s.counts)
+        → Handed handed old old_buoys old_counts (answered (some s.count)) out numbers counts
+    handed_pieces out numbers counts h o b c =
+        let by = handed_by old old_buoys old_counts (answered (some ss)) handed (sym (by_rooms false h)) in (
+          ap (λ (j : ℕ). answered (some j)) (sym ss_length) ∙ by.0,
+          (
+            o ∙ ap (splice old 0) floats_there ∙ splice-start old (piece_floats ss) ∙ by.1.0,
             (
-              o ∙ ap (splice old 0) floats_there ∙ splice-start old (piece_floats ss) ∙ by.1.0,
-              (
-                b ∙ ap (splice old_buoys 0) buoys_there ∙ splice-start old_buoys (piece_buoys ss) ∙ by.1.1.0,
-                c ∙ sym (splice_front old_counts m (take m sizes) (counts_length n m work buoys sizes stand))
-                    ∙ ap (splice old_counts 0) counts_there ∙ splice-start old_counts (piece_counts ss) ∙ by.1.1.1,
-              ),
+              b ∙ ap (splice old_buoys 0) buoys_there ∙ splice-start old_buoys (piece_buoys ss) ∙ by.1.1.0,
+              c ∙ ap (splice old_counts 0) counts_there ∙ splice-start old_counts (piece_counts ss) ∙ by.1.1.1,
             ),
-          )
+          ),
+        )

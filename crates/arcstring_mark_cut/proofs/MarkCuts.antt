@@ -21,10 +21,12 @@ use Rattle.arcstring_insert.specs.Insert.{insert_at}
 use Rattle.arcstring_insert.proofs.Inserted.{length_inserted}
 use Rattle.arcstring_insert.proofs.Steps.{over_limit, at_most_limit}
 use Rattle.arcstring_piece.specs.Pieces.{sum, all_some}
-use Rattle.arcstring_piece.proofs.inner.replace.Sums.{sum_split, some_among}
+use Rattle.arcstring_piece.proofs.inner.replace.Sums.{sum-next, sum_split, some_among}
 use Rattle.arcstring_piece.proofs.inner.replace.Cuts.{replaced, first_replaced, replaced-sum, replaced_some}
+use Rattle.arcstring_mark_cut.specs.declared.pieces.Opened.{Opened}
 use Rattle.arcstring_mark_cut.specs.CutAtMarks.{together, part_before, part_after, at_piece_end, checked_cut}
 use Rattle.arcstring_mark_cut.specs.Standing.{opened_room, in_pieces, standing, cut_there, Stands}
+use Rattle.arcstring_mark_cut.specs.OpenedPieces.{pieces_of}
 use Rattle.arcstring_mark_cut.proofs.OnePieceCut.{length_before, length_after}
 use Rattle.arcstring_mark_cut.proofs.InPieces.{in_same, in_together, in_there, in_all, in_two}
 
@@ -37,7 +39,7 @@ insert_twice {A} q x xs h =
     ap₂ (λ (ys zs : List A). ys ++ (x ∷ zs)) (take_at (take q xs) (x ∷ drop q xs) q l) (drop_at (take q xs) (x ∷ drop q xs) q l)
 
 -- put in among the first t elements, and once more among those and it
-pub put_twice : {A : Type 0} (q t all : ℕ) (x : A) (xs ys zs : List A) → t ≡ all → take (t + 1) ys ≡ insert_at q x (take t xs)
+put_twice : {A : Type 0} (q t all : ℕ) (x : A) (xs ys zs : List A) → t ≡ all → take (t + 1) ys ≡ insert_at q x (take t xs)
     → take (t + 1 + 1) zs ≡ insert_at q x (take (t + 1) ys) → take (all + 2) zs ≡ insert_at q x (insert_at q x (take all xs))
 put_twice q t all x xs ys zs e one two =
     let n : all + 2 ≡ t + 1 + 1 = omega arith in
@@ -116,82 +118,99 @@ module _ {A : Type 0} (cs : List ℕ) (xs : List A) (k i : ℕ) (x : A) (h : k <
 
 -- ---- in the local lists
 
--- the vertices that stand in them fill what the counts say
-module _ (n m : ℕ) (work : List Float) (buoys counts : List ℕ) (st : Stands n m work buoys counts) where
+-- the vertices that stand in them fill what the s.counts say
+module _ (s : Opened) where
   abbrev vertices_in_lem : List Vertex
-  vertices_in_lem = numbered (points work) buoys
+  vertices_in_lem = numbered (points s.v) s.buoys
 
   abbrev total : ℕ
-  total = sum (take m counts)
+  total = sum (take s.count s.counts)
 
-  pub as_many : length buoys ≡ length (points work)
-  as_many = st.buoys_room ∙ sym (length-points opened_room work st.floats)
+  pub as_many : length s.buoys ≡ length (points s.v)
+  as_many = s.stands.buoys_room ∙ sym (length-points opened_room s.v s.stands.floats)
 
   pub room_for_all : length vertices_in_lem ≡ opened_room
-  room_for_all = length-numbered (points work) buoys as_many ∙ sym as_many ∙ st.buoys_room
+  room_for_all = length-numbered (points s.v) s.buoys as_many ∙ sym as_many ∙ s.stands.buoys_room
 
   pub filled : length (take total vertices_in_lem) ≡ total
-  filled = let l = st.limit in length-take-le total vertices_in_lem (omega (arith, room_for_all))
+  filled = let l = s.stands.limit in length-take-le total vertices_in_lem (omega (arith, room_for_all))
 
   -- there is a count for each piece, and room for more
-  pub few_pieces : m < most_points
-  few_pieces = let l = st.limit in let p = st.points in omega arith
+  pub few_pieces : s.count < most_points
+  few_pieces = let l = s.stands.limit in let p = s.stands.points in omega arith
 
-  pub counts_length : length (take m counts) ≡ m
-  counts_length = let r = st.counts-room in length-take-le m counts (omega (arith, few_pieces))
+  pub counts_length : length (take s.count s.counts) ≡ s.count
+  counts_length = let r = s.stands.counts-room in length-take-le s.count s.counts (omega (arith, few_pieces))
 
-  pub standing_in_all : standing m work buoys counts ≡ in_pieces (take m counts) (take total vertices_in_lem)
+  pub standing_in_all : pieces_of s ≡ in_pieces (take s.count s.counts) (take total vertices_in_lem)
   unfolding standing
-  standing_in_all = in_same (take m counts) vertices_in_lem (take total vertices_in_lem) (sym (take-take total total vertices_in_lem (omega arith)))
+  standing_in_all = in_same (take s.count s.counts) vertices_in_lem (take total vertices_in_lem) (sym (take-take total total vertices_in_lem (omega arith)))
 
-  pub all_points : sum (take m counts) ≡ n + 2 * (m - 1)
-  all_points = let p = st.points in let q = st.pieces in omega arith
+  pub all_points : sum (take s.count s.counts) ≡ s.points + 2 * (s.count - 1)
+  all_points = let p = s.stands.points in let q = s.stands.pieces in omega arith
+
+  -- x put in twice among the vertices that stand in them
+  pub both_put : (x : Vertex) (q : ℕ) (v w : List Float) (bs cs : List ℕ)
+      → take (s.points + 2 * (s.count - 1) + 1) (numbered (points v) bs) ≡ insert_at q x (take (s.points + 2 * (s.count - 1)) vertices_in_lem)
+      → take (s.points + 2 * (s.count - 1) + 1 + 1) (numbered (points w) cs) ≡ insert_at q x (take (s.points + 2 * (s.count - 1) + 1) (numbered (points v) bs))
+      → take (total + 2) (numbered (points w) cs) ≡ insert_at q x (insert_at q x (take total vertices_in_lem))
+  both_put x q v w bs cs one two = put_twice q _ total x vertices_in_lem (numbered (points v) bs) (numbered (points w) cs) (sym all_points) one two
 
   -- piece k, whose leg i holds the mark x
-  module _ (k : ℕ) (h : k < m) where
-    in_counts : k < length (take m counts)
+  module _ (k : ℕ) (h : k < s.count) where
+    in_counts : k < length (take s.count s.counts)
     in_counts = omega (arith, counts_length)
 
-    before_k : sum (take k (take m counts)) ≡ sum (take k counts)
-    before_k = ap sum (take-take k m counts (omega arith))
+    before_k : sum (take k (take s.count s.counts)) ≡ sum (take k s.counts)
+    before_k = ap sum (take-take k s.count s.counts (omega arith))
 
-    count_k : get_or (take m counts) k 0 ≡ get_or counts k 0
-    count_k = get_or-take m counts k 0 h
+    count_k : get_or (take s.count s.counts) k 0 ≡ get_or s.counts k 0
+    count_k = get_or-take s.count s.counts k 0 h
 
-    pub piece_some : 1 ≤ get_or counts k 0
-    piece_some = let r = st.counts-room in some_among counts m k h (omega (arith, few_pieces)) st.some
+    pub piece_some : 1 ≤ get_or s.counts k 0
+    piece_some = let r = s.stands.counts-room in some_among s.counts s.count k h (omega (arith, few_pieces)) s.stands.some
 
-    pub piece-within : sum (take k counts) + get_or counts k 0 ≤ total
-    piece-within = let r = st.counts-room in omega (arith, sum_split counts m k h (omega (arith, few_pieces)))
+    pub piece-within : sum (take k s.counts) + get_or s.counts k 0 ≤ total
+    piece-within = let r = s.stands.counts-room in omega (arith, sum_split s.counts s.count k h (omega (arith, few_pieces)))
 
-    pub piece_there : get_or (standing m work buoys counts) k [] ≡ take (get_or counts k 0) (drop (sum (take k counts)) vertices_in_lem)
+    -- it lies within all points, and these within the lists; `at` is where it starts
+    pub piece_room : (at : ℕ) → at ≡ sum (take k s.counts)
+        → (at + get_or s.counts k 0 ≤ s.points + 2 * (s.count - 1)) × (s.points + 2 * (s.count - 1) ≤ opened_room) × (length s.v ≡ 3 * opened_room)
+        × (1 ≤ get_or s.counts k 0)
+    piece_room at starts = let l = s.stands.limit in (omega (arith, piece-within, all_points), omega (arith, all_points), s.stands.floats, piece_some)
+
+    -- and the next piece starts behind it
+    pub next_start : (at : ℕ) → at ≡ sum (take k s.counts) → at + get_or s.counts k 0 ≡ sum (take (k + 1) s.counts)
+    next_start at starts = let r = s.stands.counts-room in omega (arith, sum-next s.counts k (omega (arith, few_pieces)))
+
+    pub piece_there : get_or (pieces_of s) k [] ≡ take (get_or s.counts k 0) (drop (sum (take k s.counts)) vertices_in_lem)
     unfolding standing
     piece_there =
-        in_there (take m counts) vertices_in_lem k in_counts
+        in_there (take s.count s.counts) vertices_in_lem k in_counts
         ∙ ap₂ (λ (c j : ℕ). take c (drop j vertices_in_lem)) count_k before_k
 
     -- its points
-    pub piece_places : map place_of (get_or (standing m work buoys counts) k []) ≡ take (get_or counts k 0) (drop (sum (take k counts)) (points work))
+    pub piece_places : map place_of (get_or (pieces_of s) k []) ≡ take (get_or s.counts k 0) (drop (sum (take k s.counts)) (points s.v))
     piece_places =
         ap (map place_of) piece_there
-        ∙ map-take place_of (get_or counts k 0) (drop (sum (take k counts)) vertices_in_lem)
-        ∙ ap (take (get_or counts k 0)) (map-drop place_of (sum (take k counts)) vertices_in_lem
-        ∙ ap (drop (sum (take k counts))) (all_places (points work) buoys as_many))
+        ∙ map-take place_of (get_or s.counts k 0) (drop (sum (take k s.counts)) vertices_in_lem)
+        ∙ ap (take (get_or s.counts k 0)) (map-drop place_of (sum (take k s.counts)) vertices_in_lem
+        ∙ ap (drop (sum (take k s.counts))) (all_places (points s.v) s.buoys as_many))
 
-    pub end_of_piece : (x : Vertex) (at : ℕ) → at ≡ sum (take k counts)
-        → at_piece_end itself x.place (take (get_or counts k 0) (drop at (points work))) ≡ at_piece_end place_of x (get_or (standing m work buoys counts) k [])
+    pub end_of_piece : (x : Vertex) (at : ℕ) → at ≡ sum (take k s.counts)
+        → at_piece_end itself x.place (take (get_or s.counts k 0) (drop at (points s.v))) ≡ at_piece_end place_of x (get_or (pieces_of s) k [])
     unfolding at_piece_end
     end_of_piece x at starts =
-        let ps = take (get_or counts k 0) (drop at (points work)) in
-        let e : map itself ps ≡ map place_of (get_or (standing m work buoys counts) k []) =
-        map-id ps ∙ ap (λ (j : ℕ). take (get_or counts k 0) (drop j (points work))) starts ∙ sym piece_places in
+        let ps = take (get_or s.counts k 0) (drop at (points s.v)) in
+        let e : map itself ps ≡ map place_of (get_or (pieces_of s) k []) =
+        map-id ps ∙ ap (λ (j : ℕ). take (get_or s.counts k 0) (drop j (points s.v))) starts ∙ sym piece_places in
         ap (λ (qs : List SphericalPoint). xyz_eq x.place (get_or qs 0 no_point) || xyz_eq x.place (get_or qs (length qs - 1) no_point)) e
 
     -- b whether the mark equals an end of it
-    module _ (i : ℕ) (x : Vertex) (b : Bool) (at : ℕ) (starts : at ≡ sum (take k counts))
-        (tested : b ≡ at_piece_end itself x.place (take (get_or counts k 0) (drop at (points work)))) where
+    module _ (i : ℕ) (x : Vertex) (b : Bool) (at : ℕ) (starts : at ≡ sum (take k s.counts))
+        (tested : b ≡ at_piece_end itself x.place (take (get_or s.counts k 0) (drop at (points s.v)))) where
       abbrev ps : List (List Vertex)
-      ps = standing m work buoys counts
+      ps = pieces_of s
 
       -- the pieces with two in the place of piece k
       abbrev cut_ps : List (List Vertex)
@@ -204,60 +223,61 @@ module _ (n m : ℕ) (work : List Float) (buoys counts : List ℕ) (st : Stands 
       pub cuts_nothing : b ≡ true → answered ps ≡ checked_cut place_of ps (cut_there x k i ps)
       cuts_nothing e = sym (by_end_lem true e)
 
-      module _ (inside : i + 1 < get_or counts k 0) (other : b ≡ false) where
-        inside_k : i + 1 < get_or (take m counts) k 0
+      module _ (inside : i + 1 < get_or s.counts k 0) (other : b ≡ false) where
+        inside_k : i + 1 < get_or (take s.count s.counts) k 0
         inside_k = omega (arith, count_k)
 
         -- as in the list that the pieces fill
-        cut_as : cut_ps ≡ cut (take m counts) (take total vertices_in_lem) k i x in_counts filled inside_k
+        cut_as : cut_ps ≡ cut (take s.count s.counts) (take total vertices_in_lem) k i x in_counts filled inside_k
         cut_as = ap
             (λ (xss : List (List Vertex)). take k xss ++ (part_before x i (get_or xss k []) ∷ part_after x i (get_or xss k []) ∷ drop (k + 1) xss))
             standing_in_all
 
         points_then : together cut_ps ≡ total + 2
-        points_then = ap together cut_as ∙ cut_together (take m counts) (take total vertices_in_lem) k i x in_counts filled inside_k
+        points_then = ap together cut_as ∙ cut_together (take s.count s.counts) (take total vertices_in_lem) k i x in_counts filled inside_k
 
         pub one_too_many : most_points < total + 2 → refused 3 ≡ checked_cut place_of ps (cut_there x k i ps)
         one_too_many h = sym (by_end_lem false other ∙ over_limit (together cut_ps) cut_ps (omega (arith, points_then)))
 
         module _ (fits : total + 2 ≤ most_points) (work' : List Float) (buoys' counts' : List ℕ) (q : ℕ) (there : q ≡ at + i + 1)
             (put : take (total + 2) (numbered (points work') buoys') ≡ insert_at q x (insert_at q x (take total vertices_in_lem)))
-            (counted : counts' ≡ splice counts k ((i + 2) ∷ (get_or counts k 0 - i) ∷ take (m - (k + 1)) (drop (k + 1) counts))) where
-          new_counts : take (m + 1) counts' ≡ replaced (take m counts) k (i + 2) (get_or (take m counts) k 0 - i)
+            (counted : counts' ≡ splice s.counts k ((i + 2) ∷ (get_or s.counts k 0 - i) ∷ take (s.count - (k + 1)) (drop (k + 1) s.counts))) where
+          new_counts : take (s.count + 1) counts' ≡ replaced (take s.count s.counts) k (i + 2) (get_or (take s.count s.counts) k 0 - i)
           new_counts =
-              let r = st.counts-room in
-              first_replaced counts counts' m k (i + 2) (get_or counts k 0 - i) h (omega (arith, few_pieces)) counted
-              ∙ ap (λ (c : ℕ). replaced (take m counts) k (i + 2) (c - i)) (sym count_k)
+              let r = s.stands.counts-room in
+              first_replaced s.counts counts' s.count k (i + 2) (get_or s.counts k 0 - i) h (omega (arith, few_pieces)) counted
+              ∙ ap (λ (c : ℕ). replaced (take s.count s.counts) k (i + 2) (c - i)) (sym count_k)
 
-          new_sum : sum (take (m + 1) counts') ≡ total + 2
-          new_sum = ap sum new_counts ∙ cut_sum (take m counts) (take total vertices_in_lem) k i x in_counts filled inside_k
+          new_sum : sum (take (s.count + 1) counts') ≡ total + 2
+          new_sum = ap sum new_counts ∙ cut_sum (take s.count s.counts) (take total vertices_in_lem) k i x in_counts filled inside_k
 
-          new_pieces : standing (m + 1) work' buoys' counts' ≡ cut_ps
+          new_pieces : standing (s.count + 1) work' buoys' counts' ≡ cut_ps
           unfolding standing
           new_pieces =
               let vs = numbered (points work') buoys' in
-              let e : q ≡ sum (take k (take m counts)) + i + 1 = omega (arith, before_k) in
-              in_same (take (m + 1) counts') vs (take (total + 2) vs)
+              let e : q ≡ sum (take k (take s.count s.counts)) + i + 1 = omega (arith, before_k) in
+              in_same (take (s.count + 1) counts') vs (take (total + 2) vs)
               (sym (ap (λ (j : ℕ). take j (take (total + 2) vs)) new_sum ∙ take-take (total + 2) (total + 2) vs (omega arith)
               ∙ ap (λ (j : ℕ). take j vs) (sym new_sum)))
               ∙ ap₂ in_pieces new_counts (put ∙ ap (λ (j : ℕ). insert_at j x (insert_at j x (take total vertices_in_lem))) e)
-              ∙ cut_in_list (take m counts) (take total vertices_in_lem) k i x in_counts filled inside_k
+              ∙ cut_in_list (take s.count s.counts) (take total vertices_in_lem) k i x in_counts filled inside_k
               ∙ sym cut_as
 
-          pub one_more_lem : answered (standing (m + 1) work' buoys' counts') ≡ checked_cut place_of ps (cut_there x k i ps)
+          pub one_more_lem : answered (standing (s.count + 1) work' buoys' counts') ≡ checked_cut place_of ps (cut_there x k i ps)
           one_more_lem =
               ap answered new_pieces ∙ sym (by_end_lem false other ∙ at_most_limit (together cut_ps) cut_ps (omega (arith, points_then)))
 
-          pub one_more_stands : length work' ≡ length work → length buoys' ≡ length buoys → length counts' ≡ length counts
-              → Stands n (m + 1) work' buoys' counts'
+          pub one_more_stands : length work' ≡ length s.v → length buoys' ≡ length s.buoys → length counts' ≡ length s.counts
+              → Stands s.points (s.count + 1) work' buoys' counts'
           one_more_stands lw lb lc =
               record {
-                floats = lw ∙ st.floats;
-                buoys_room = lb ∙ st.buoys_room;
-                counts-room = lc ∙ st.counts-room;
+                floats = lw ∙ s.stands.floats;
+                buoys_room = lb ∙ s.stands.buoys_room;
+                counts-room = lc ∙ s.stands.counts-room;
                 some = ap all_some new_counts
-                    ∙ replaced_some (take m counts) k (i + 2) (get_or (take m counts) k 0 - i) (omega arith) (omega (arith, inside_k)) st.some;
+                    ∙ replaced_some (take s.count s.counts) k (i + 2) (get_or (take s.count s.counts) k 0 - i) (omega arith) (omega (arith, inside_k))
+                    s.stands.some;
                 pieces = omega arith;
-                points = let p = st.points in omega (arith, new_sum);
+                points = let p = s.stands.points in omega (arith, new_sum);
                 limit = omega (arith, new_sum);
               }

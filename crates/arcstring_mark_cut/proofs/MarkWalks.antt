@@ -1,5 +1,7 @@
 -- The walk of one mark over the pieces that stand in the local lists: past a piece that does not hold it, into the first that does, and past them all.
 -- Assumes nothing.
+use Rattle.std.specs.Prelude as Std
+use Rattle.std.specs.Prelude.{Some, None}
 use mathlib.Core.Path.{◌≡◌, refl, sym, ap, ap₂, ◌∙◌}
 use mathlib.Core.Bool.{Bool, true, false}
 use mathlib.Core.List.{List, [], ◌∷◌, ◌++◌, map, append_assoc}
@@ -11,22 +13,21 @@ use native.Mathlib.Omega.{arith}
 use lib.ListN.{length, get_or, take, drop, length-drop, length-map, drop_of_length-le}
 use lib.Seq.{length-take-le, take-suc}
 use lib.Ieee.{Float}
-use Rattle.arcstring_check.specs.Answer.{Answer, answered, pick}
+use Rattle.arcstring_check.specs.Answer.{Answer, answered, pick, option_of}
 use Rattle.arcstring.specs.declared.inner.vertex.Vertex.{Vertex}
 use Rattle.arcstring.specs.Points.{place_of, points}
 use Rattle.arcstring.specs.Leg.{legs, legs_from}
 use Rattle.arcstring.proofs.Flat.{length-points, take-points, drop-points}
 use Rattle.arcstring.proofs.Legs.{legs_whole, open_count}
-use Rattle.arcstring_along.specs.declared.inner.along.Found.{Found}
-use Rattle.arcstring_along.specs.declared.inner.along.Found.TheVariants.{At, Nothing}
-use Rattle.arcstring_along.specs.OnString.{found_at}
 use Rattle.arcstring_piece.specs.Pieces.{sum}
 use Rattle.arcstring_mark.specs.Mark.{first_holding}
+use Rattle.arcstring_mark_cut.specs.declared.pieces.Opened.{Opened}
 use Rattle.arcstring_mark_cut.specs.CutAtMarks.{part_before, part_after, leg_holding, at_piece_end, cut_piece, cut_first, checked_cut, cut_at_mark}
-use Rattle.arcstring_mark_cut.specs.Standing.{opened_room, standing, cut_there, Stands}
+use Rattle.arcstring_mark_cut.specs.Standing.{standing, cut_there}
+use Rattle.arcstring_mark_cut.specs.OpenedPieces.{pieces_of}
 use Rattle.arcstring_mark_cut.proofs.InPieces.{in_length, in_from, in_there}
 use Rattle.arcstring_mark_cut.proofs.FoundCut.{leg_low}
-use Rattle.arcstring_mark_cut.proofs.MarkCuts.{counts_length, piece_some, piece-within, piece_places}
+use Rattle.arcstring_mark_cut.proofs.MarkCuts.{counts_length, piece_room, piece_places}
 
 -- pieces before what a mark makes of others
 abbrev pub behind : {A : Type 0} → List A → Option (List A) → Option (List A)
@@ -41,13 +42,13 @@ behind_one : {A : Type 0} (before longer : List A) (xs : A) (o : Option (List A)
 behind_one before longer xs none e = refl
 behind_one before longer xs (some yss) e = ap some (sym (ap (λ l. l ++ yss) e ∙ append_assoc before (xs ∷ []) yss))
 
-module _ (n m : ℕ) (work : List Float) (buoys counts : List ℕ) (x : Vertex) (st : Stands n m work buoys counts) where
+module _ (s : Opened) (x : Vertex) where
   abbrev ps : List (List Vertex)
-  ps = standing m work buoys counts
+  ps = pieces_of s
 
-  ps_length : length ps ≡ m
+  ps_length : length ps ≡ s.count
   unfolding standing
-  ps_length = in_length (take m counts) _ ∙ counts_length n m work buoys counts st
+  ps_length = in_length (take s.count s.counts) _ ∙ counts_length s
 
   -- before the first piece
   pub walk_begin : checked_cut place_of ps (behind (take 0 ps) (cut_first place_of x (drop 0 ps))) ≡ cut_at_mark place_of x ps
@@ -56,7 +57,7 @@ module _ (n m : ℕ) (work : List Float) (buoys counts : List ℕ) (x : Vertex) 
 
   -- k pieces do not hold the mark; what it makes of those from k on, behind them, is the whole answer
   module _ (k : ℕ) (whole : Answer (List (List Vertex))) (rest : checked_cut place_of ps (behind (take k ps) (cut_first place_of x (drop k ps))) ≡ whole) where
-    pub walk_end : m ≤ k → answered ps ≡ whole
+    pub walk_end : s.count ≤ k → answered ps ≡ whole
     unfolding cut_first
     walk_end h =
         let all : length ps ≤ k = omega (arith, ps_length) in
@@ -64,35 +65,25 @@ module _ (n m : ℕ) (work : List Float) (buoys counts : List ℕ) (x : Vertex) 
         sym (ap (λ (xss : List (List Vertex)). checked_cut place_of ps (behind (take k ps) (cut_first place_of x xss))) none_left) ∙ rest
 
     -- v the floats of piece k, which has `size` vertices from `at` on
-    module _ (h : k < m) (v : List Float) (size at : ℕ) (sized : size ≡ get_or counts k 0) (starts : at ≡ sum (take k counts))
-        (part : v ≡ take (3 * (at + size) - 3 * at) (drop (3 * at) work)) where
-      within : sum (take k counts) + get_or counts k 0 ≤ sum (take m counts)
-      within = piece-within n m work buoys counts st k h
-
-      part_as : v ≡ take (3 * size) (drop (3 * at) work)
-      part_as = let e : 3 * (at + size) - 3 * at ≡ 3 * size = omega arith in part ∙ ap (λ (j : ℕ). take j (drop (3 * at) work)) e
-
-      -- they lie within the list, and are some
-      pub part_room : (at + size ≤ opened_room) × (3 * (at + size) ≤ length work) × (1 ≤ size)
-      part_room =
-          let l = st.limit in
-          let w = st.floats in
-          (omega (arith, within), omega (arith, within), omega (arith, piece_some n m work buoys counts st k h))
+    module _ (h : k < s.count) (v : List Float) (size at : ℕ) (sized : size ≡ get_or s.counts k 0) (starts : at ≡ sum (take k s.counts))
+        (part : v ≡ take (3 * (at + size) - 3 * at) (drop (3 * at) s.v)) where
+      part_as : v ≡ take (3 * size) (drop (3 * at) s.v)
+      part_as = let e : 3 * (at + size) - 3 * at ≡ 3 * size = omega arith in part ∙ ap (λ (j : ℕ). take j (drop (3 * at) s.v)) e
 
       pub part_length : length v ≡ 3 * size
-      part_length = ap length part_as ∙ length-take-le (3 * size) (drop (3 * at) work) (rw length-drop (omega (arith, part_room)))
+      part_length = ap length part_as ∙ length-take-le (3 * size) (drop (3 * at) s.v) (rw length-drop (omega (arith, piece_room s k h at starts)))
 
       part-points : points v ≡ map place_of (get_or ps k [])
       part-points =
           ap points part_as
-          ∙ take-points size (drop (3 * at) work)
-          ∙ ap (take size) (drop-points at work)
-          ∙ ap₂ (λ (c j : ℕ). take c (drop j (points work))) sized starts
-          ∙ sym (piece_places n m work buoys counts st k h)
+          ∙ take-points size (drop (3 * at) s.v)
+          ∙ ap (take size) (drop-points at s.v)
+          ∙ ap₂ (λ (c j : ℕ). take c (drop j (points s.v))) sized starts
+          ∙ sym (piece_places s k h)
 
       -- f the first of its legs that holds the mark
-      module _ (f : Found) (found : found_at f ≡ first_holding x.place (legs_from v 0 (size - 1))) where
-        held : found_at f ≡ leg_holding place_of x (get_or ps k [])
+      module _ (f : Std.Option ℕ) (found : option_of f ≡ first_holding x.place (legs_from v 0 (size - 1))) where
+        held : option_of f ≡ leg_holding place_of x (get_or ps k [])
         unfolding leg_holding
         held =
             found
@@ -104,27 +95,28 @@ module _ (n m : ℕ) (work : List Float) (buoys counts : List ℕ) (x : Vertex) 
         here : drop k ps ≡ get_or ps k [] ∷ drop (k + 1) ps
         unfolding standing
         here =
-            let low : k < length (take m counts) = omega (arith, counts_length n m work buoys counts st) in
-            in_from (take m counts) _ k low ∙ ap (λ (xs : List Vertex). xs ∷ drop (k + 1) ps) (sym (in_there (take m counts) _ k low))
+            let low : k < length (take s.count s.counts) = omega (arith, counts_length s) in
+            in_from (take s.count s.counts) _ k low ∙ ap (λ (xs : List Vertex). xs ∷ drop (k + 1) ps) (sym (in_there (take s.count s.counts) _ k low))
 
-        one_piece : (o : Option ℕ) → found_at f ≡ o → cut_first place_of x (drop k ps) ≡ cut_piece place_of x (get_or ps k []) (drop (k + 1) ps) o
+        one_piece : (o : Option ℕ) → option_of f ≡ o → cut_first place_of x (drop k ps) ≡ cut_piece place_of x (get_or ps k []) (drop (k + 1) ps) o
             (cut_first place_of x (drop (k + 1) ps))
         unfolding cut_first
         one_piece o e =
             ap (cut_first place_of x) here
             ∙ ap (λ (j : Option ℕ). cut_piece place_of x (get_or ps k []) (drop (k + 1) ps) j (cut_first place_of x (drop (k + 1) ps))) (sym held ∙ e)
 
-        pub walk_on : f ≡ Nothing → checked_cut place_of ps (behind (take (k + 1) ps) (cut_first place_of x (drop (k + 1) ps))) ≡ whole
+        pub walk_on : f ≡ None → checked_cut place_of ps (behind (take (k + 1) ps) (cut_first place_of x (drop (k + 1) ps))) ≡ whole
         walk_on told =
             let longer : take (k + 1) ps ≡ take k ps ++ (get_or ps k [] ∷ []) = rw add-one (take-suc ps k [] (omega (arith, ps_length))) in
             ap (checked_cut place_of ps)
-            (sym (ap (behind (take k ps)) (one_piece none (ap found_at told))
+            (sym (ap (behind (take k ps)) (one_piece none (ap option_of told))
             ∙ behind_one (take k ps) (take (k + 1) ps) (get_or ps k []) (cut_first place_of x (drop (k + 1) ps)) longer))
             ∙ rest
 
-        module _ (i : ℕ) (told : f ≡ At i) where
+        module _ (i : ℕ) (told : f ≡ Some i) where
           by_end_lem : (b : Bool) → at_piece_end place_of x (get_or ps k []) ≡ b
-              → cut_there x k i ps ≡ behind (take k ps) (pick b none (some (part_before x i (get_or ps k []) ∷ part_after x i (get_or ps k []) ∷ drop (k + 1) ps)))
+              → cut_there x k i ps
+              ≡ behind (take k ps) (pick b none (some (part_before x i (get_or ps k []) ∷ part_after x i (get_or ps k []) ∷ drop (k + 1) ps)))
           unfolding cut_there
           by_end_lem true e =
               ap (λ (b : Bool). pick b none (some (take k ps ++ (part_before x i (get_or ps k []) ∷ part_after x i (get_or ps k []) ∷ drop (k + 1) ps)))) e
@@ -135,10 +127,10 @@ module _ (n m : ℕ) (work : List Float) (buoys counts : List ℕ) (x : Vertex) 
           walk_cuts r done =
               done
               ∙ ap (checked_cut place_of ps)
-              (by_end_lem (at_piece_end place_of x (get_or ps k [])) refl ∙ ap (behind (take k ps)) (sym (one_piece (some i) (ap found_at told))))
+              (by_end_lem (at_piece_end place_of x (get_or ps k [])) refl ∙ ap (behind (take k ps)) (sym (one_piece (some i) (ap option_of told))))
               ∙ rest
 
-          pub leg_inside : i + 1 < get_or counts k 0
+          pub leg_inside : i + 1 < get_or s.counts k 0
           leg_inside =
-              let low = leg_low place_of x (get_or ps k []) i (sym held ∙ ap found_at told) in
+              let low = leg_low place_of x (get_or ps k []) i (sym held ∙ ap option_of told) in
               omega (arith, low, length-map (get_or ps k []) place_of, ap length part-points, length-points size v part_length)

@@ -51,7 +51,8 @@ module _ {A B : Type 0} (f : A → B) where
     map_end : (xs : List A) → at_piece_end (made f pt) x xs ≡ at_piece_end pt (f x) (map f xs)
     unfolding at_piece_end
     map_end xs =
-        ap (λ (ps : List SphericalPoint). xyz_eq (pt (f x)) (get_or ps 0 no_point) || xyz_eq (pt (f x)) (get_or ps (length ps - 1) no_point)) (sym (map-map pt f xs))
+        ap (λ (ps : List SphericalPoint). xyz_eq (pt (f x)) (get_or ps 0 no_point) || xyz_eq (pt (f x)) (get_or ps (length ps - 1) no_point))
+        (sym (map-map pt f xs))
 
     picked_by : (b : Bool) (cut : List (List A)) → Option.map (map (map f)) (pick b none (some cut)) ≡ pick b none (some (map (map f) cut))
     picked_by true cut = refl

@@ -1,15 +1,12 @@
 -- Pieces as they stand one after another in lists that are worked on: for the contracts of inner functions. Definitions only.
-use Rattle.std.specs.Prelude.{◌≡◌, true, List, [], ◌∷◌, ◌++◌, map, ℕ, ◌+◌, ◌*◌, ◌≤◌, length, get_or, take, drop, Float}
+use Rattle.std.specs.Prelude.{◌≡◌, true, List, [], ◌∷◌, ◌++◌, ℕ, ◌+◌, ◌*◌, ◌≤◌, length, get_or, take, drop, Float}
 use Rattle.std.proofs.Math.Option.{Option, none, some}
-use Rattle.arcstring_check.specs.Answer.{Answer, refused, answered, and_then, pick, refusal_number}
+use Rattle.arcstring_check.specs.Answer.{pick}
 use Rattle.arcstring_check.specs.Check.{most_points}
 use Rattle.arcstring.specs.declared.inner.vertex.Vertex.{Vertex}
-use Rattle.arcstring.specs.Points.{StringOf, numbered, place_of, points}
-use Rattle.arcstring_split_leg.specs.declared.inner.Cut.{Cut}
-use Rattle.arcstring_split_leg.specs.declared.inner.Cut.TheVariants as C
-use Rattle.arcstring_split_leg.specs.SplitLeg.{unless_uncut}
+use Rattle.arcstring.specs.Points.{numbered, place_of, points}
 use Rattle.arcstring_piece.specs.Pieces.{sum, all_some}
-use Rattle.arcstring_mark_cut.specs.CutAtMarks.{part_before, part_after, at_piece_end, open_string, cut_into}
+use Rattle.arcstring_mark_cut.specs.CutAtMarks.{part_before, part_after, at_piece_end}
 
 -- room for an opened string: vertex 0 of a closed one stands there twice
 abbrev pub opened_room : ℕ
@@ -24,21 +21,11 @@ in_pieces (c ∷ cs) xs = take c xs ∷ in_pieces cs (drop c xs)
 unfoldable pub standing : ℕ → List Float → List ℕ → List ℕ → List (List Vertex)
 standing m v buoys counts = in_pieces (take m counts) (numbered (points v) buoys)
 
-abbrev pub still_standing : Cut → List Float → List ℕ → List ℕ → Answer (List (List Vertex))
-still_standing (C.Pieces m) v buoys counts = answered (standing m v buoys counts)
-still_standing (C.Refused e) v buoys counts = refused (refusal_number e)
-
 -- what a mark makes of the pieces whose first that holds it is piece k, by leg i
 unfoldable pub cut_there : Vertex → ℕ → ℕ → List (List Vertex) → Option (List (List Vertex))
 cut_there x k i xss =
     let xs = get_or xss k [] in
     pick (at_piece_end place_of x xs) none (some (take k xss ++ (part_before x i xs ∷ part_after x i xs ∷ drop (k + 1) xss)))
-
--- what a cut answers once its pieces stand in the local lists
-abbrev pub handed_over : Cut → List Float → List ℕ → List ℕ → ℕ → ℕ → ℕ → Answer (Option (List (StringOf Vertex)))
-handed_over cut v buoys counts room buoy_room counts_room =
-    and_then (still_standing cut v buoys counts)
-    (λ (xss : List (List Vertex)). cut_into room buoy_room counts_room (unless_uncut (map (open_string place_of) xss)))
 
 -- Room for m pieces of a string that had n points when it was opened: none of them is empty, and each cut put in two points more.
 pub record Stands (n m : ℕ) (v : List Float) (buoys counts : List ℕ) : Type 0 where
@@ -49,8 +36,3 @@ pub record Stands (n m : ℕ) (v : List Float) (buoys counts : List ℕ) : Type 
   pub pieces : 1 ≤ m
   pub points : sum (take m counts) + 2 ≡ n + 2 * m
   pub limit : sum (take m counts) ≤ opened_room
-
--- after a cut, or after none; where a cut was refused nothing is said
-abbrev pub Left : ℕ → Cut → List Float → List ℕ → List ℕ → Type 0
-Left n (C.Pieces m) v buoys counts = Stands n m v buoys counts
-Left n (C.Refused e) v buoys counts = Unit {0}

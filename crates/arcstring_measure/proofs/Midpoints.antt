@@ -15,17 +15,13 @@ use Rattle.ieee754.proofs.Powers.{div_power}
 use Rattle.sphericalpoint.specs.declared.SphericalPoint.{SphericalPoint}
 use Rattle.sphericalpoint.specs.Vector.{xyz_div}
 use Rattle.arcstring_check.specs.declared.check.Refusal.{Refusal}
-use Rattle.arcstring_check.specs.declared.check.Refusal.TheVariants.{NoRoom}
-use Rattle.arcstring_check.specs.declared.check.Checked.{Checked}
-use Rattle.arcstring_check.specs.declared.check.Checked.TheVariants.{Accepted, Refused}
-use Rattle.arcstring_check.specs.Answer.{Answer, refused, answered, unless_refused, number_if, first_of, leaves, refusal_number}
+use Rattle.arcstring_check.specs.Answer.{Answer, refused, answered, number_if, first_of, leaves, refusal_number}
 use Rattle.arcstring.specs.Points.{points, flat}
 use Rattle.arcstring.specs.Splice.{splice}
-use Rattle.arcstring_check.specs.Check.{check_number, list_check, room_check}
+use Rattle.arcstring_check.specs.Check.{list_check, room_check}
 use Rattle.arcstring.specs.Written.{written_result, written_floats}
-use Rattle.arcstring_check.proofs.Answers.{refuse, pass, answer_refused, first_passes}
+use Rattle.arcstring_check.proofs.Answers.{stopped, went_on, first_passes}
 use Rattle.arcstring_check.proofs.Checks.{WholeList, few_passes, whole_list, if_none}
-use Rattle.arcstring_check.proofs.Rooms.{no_room, room_enough}
 use Rattle.arcstring.proofs.Flat.{length-points, length-flat, flat_append}
 use Rattle.arcstring.proofs.Moves.{floats}
 use Rattle.arcstring.proofs.Splices.{spliced_next, splice_front, splice_nothing}
@@ -129,52 +125,49 @@ midpoints-step v n k old out out' x p whole h before hx hp after =
     ∙ ap (λ (q : SphericalPoint). flat done ++ flat (q ∷ [])) (sym (hp ∙ ap midpoint hx)) in
     spliced_next old out out' 0 (flat done) (3 * k) (floats p) before after (omega arith) (omega arith) ∙ ap (splice old 0) (sym more)
 
-pub midpoints_all : (v : List Float) (l k : ℕ) (old out : List Float) → k ≡ l → out ≡ splice old 0 (flat (map midpoint (legs_from v 0 k)))
-    → out ≡ splice old 0 (flat (map midpoint (legs_from v 0 l)))
-midpoints_all v l k old out e before = before ∙ ap (λ (j : ℕ). splice old 0 (flat (map midpoint (legs_from v 0 j)))) e
-
 -- ---- the answer, and the buffer
 
-module _ (k : Checked) (v : List Float) (closed : Bool) (old : List Float) (number : check_number k ≡ midpoints_check v closed) where
-  told_both : (a : Answer (List SphericalPoint)) → a ≡ midpoints v closed (length old) → (out : List Float) → out ≡ leaves (written_floats a) old →
-      (written_result a ≡ written_result (midpoints v closed (length old))) × (out ≡ leaves (written_floats (midpoints v closed (length old))) old)
+module _ (v : List Float) (closed : Bool) (old : List Float) where
+  -- the answer a, and what the buffer then holds
+  abbrev Halves : Answer ℕ → List Float → Type 0
+  Halves r out = (r ≡ written_result (midpoints v closed (length old))) × (out ≡ leaves (written_floats (midpoints v closed (length old))) old)
+
+  told_both : (a : Answer (List SphericalPoint)) → a ≡ midpoints v closed (length old) → (out : List Float) → out ≡ leaves (written_floats a) old
+      → Halves (written_result a) out
   told_both a r out w = (ap written_result r, w ∙ ap (λ (x : Answer (List SphericalPoint)). leaves (written_floats x) old) r)
 
-  pub refused_midpoints : (e : Refusal) → k ≡ Refused e →
-      (refused (refusal_number e) ≡ written_result (midpoints v closed (length old))) × (old ≡ leaves (written_floats (midpoints v closed (length old))) old)
+  pub refused_midpoints : (e : Refusal) → refusal_number e ≡ midpoints_check v closed → Halves (refused (refusal_number e)) old
   unfolding midpoints
-  refused_midpoints e told = told_both (refused (refusal_number e)) (answer_refused k e (midpoints_check v closed) _ told number) old refl
+  refused_midpoints e number = told_both (refused (refusal_number e)) (stopped e (midpoints_check v closed) _ number) old refl
 
-  accepted_midpoints : k ≡ Accepted
-      → unless_refused (room_check (3 * length (legs (points v) closed)) (length old)) (answered (map midpoint (legs (points v) closed))) ≡ midpoints v closed
-      (length old)
-  unfolding midpoints
-  accepted_midpoints told = sym (pass (midpoints_check v closed) _ (sym number ∙ ap check_number told))
-
-  module _ (l : ℕ) (told : k ≡ Accepted) (count : l ≡ leg_count (length v / 3) closed) (few : l ≤ length v / 3) where
+  module _ (passed : 0 ≡ midpoints_check v closed) where
     pub accepted_triples : length v ≡ 3 * (length v / 3)
-    accepted_triples = (midpoints_whole v closed (sym number ∙ ap check_number told)).triples
+    accepted_triples = (midpoints_whole v closed (sym passed)).triples
 
-    all_legs : legs_from v 0 l ≡ legs (points v) closed
-    all_legs = ap (legs_from v 0) count ∙ legs_whole v (length v / 3) closed accepted_triples
+    module _ (l : ℕ) (count : l ≡ leg_count (length v / 3) closed) (few : l ≤ length v / 3) where
+      all_legs : legs_from v 0 l ≡ legs (points v) closed
+      all_legs = ap (legs_from v 0) count ∙ legs_whole v (length v / 3) closed accepted_triples
 
-    count_legs : length (legs (points v) closed) ≡ l
-    count_legs = ap length (sym all_legs) ∙ length_written v (length v / 3) l accepted_triples few
+      count_legs : length (legs (points v) closed) ≡ l
+      count_legs = ap length (sym all_legs) ∙ length_written v (length v / 3) l accepted_triples few
 
-    pub cramped_midpoints : length old < 3 * l →
-        (refused (refusal_number NoRoom) ≡ written_result (midpoints v closed (length old)))
-        × (old ≡ leaves (written_floats (midpoints v closed (length old))) old)
-    cramped_midpoints h =
-        told_both (refused (refusal_number NoRoom))
-        (refuse NoRoom _ _ (no_room (3 * length (legs (points v) closed)) (length old) (omega (arith, count_legs))) ∙ accepted_midpoints told) old refl
+      room : room_check (3 * l) (length old) ≡ room_check (3 * length (legs (points v) closed)) (length old)
+      room = ap (λ (n : ℕ). room_check (3 * n) (length old)) (sym count_legs)
 
-    pub written_midpoints : (out : List Float) → 3 * l ≤ length old → out ≡ splice old 0 (flat (map midpoint (legs_from v 0 l))) →
-        (answered l ≡ written_result (midpoints v closed (length old))) × (out ≡ leaves (written_floats (midpoints v closed (length old))) old)
-    written_midpoints out h w =
-        let ms = map midpoint (legs (points v) closed) in
-        let r : answered ms ≡ midpoints v closed (length old) = sym
-        (pass _ (answered ms) (room_enough (3 * length (legs (points v) closed)) (length old) (omega (arith, count_legs)))) ∙ accepted_midpoints told in
-        let m : length ms ≡ l = length-map (legs (points v) closed) midpoint ∙ count_legs in
-        let both = told_both (answered ms) r out
-        (w ∙ ap (λ (ls : List Leg). splice old 0 (flat (map midpoint ls))) all_legs ∙ splice_front old (length (flat ms)) (flat ms) refl) in
-        (ap answered (sym m) ∙ both.0, both.1)
+      pub cramped_midpoints : (e : Refusal) → refusal_number e ≡ room_check (3 * l) (length old) → Halves (refused (refusal_number e)) old
+      unfolding midpoints
+      cramped_midpoints e number =
+          told_both (refused (refusal_number e))
+          (stopped e (room_check (3 * length (legs (points v) closed)) (length old)) _ (number ∙ room) ∙ went_on (midpoints_check v closed) _ passed) old refl
+
+      pub written_midpoints : (out : List Float) → 0 ≡ room_check (3 * l) (length old) → out ≡ splice old 0 (flat (map midpoint (legs_from v 0 l)))
+          → Halves (answered l) out
+      unfolding midpoints
+      written_midpoints out enough w =
+          let ms = map midpoint (legs (points v) closed) in
+          let r : answered ms ≡ midpoints v closed (length old) =
+          went_on (room_check (3 * length (legs (points v) closed)) (length old)) (answered ms) (enough ∙ room) ∙ went_on (midpoints_check v closed) _ passed in
+          let m : length ms ≡ l = length-map (legs (points v) closed) midpoint ∙ count_legs in
+          let both = told_both (answered ms) r out
+          (w ∙ ap (λ (ls : List Leg). splice old 0 (flat (map midpoint ls))) all_legs ∙ splice_front old (length (flat ms)) (flat ms) refl) in
+          (ap answered (sym m) ∙ both.0, both.1)

@@ -2,7 +2,7 @@
 use mathlib.Core.Path.{◌≡◌, refl, sym, ap, ◌∙◌}
 use mathlib.Core.Bool.{Bool, true, false, not, ◌&&◌, ◌||◌}
 use mathlib.Core.List.{List, [], ◌∷◌, ◌++◌}
-use Prim.Native.Nat.{ℕ, zero, suc, ◌+◌, ◌-◌, ◌*◌, ◌/◌, ◌≤◌, ◌<◌}
+use Prim.Native.Nat.{ℕ, zero, suc, ◌+◌, ◌-◌, ◌*◌, ◌/◌, ◌<◌}
 use native.Mathlib.Numerals.{add-one}
 use native.Mathlib.Omega.{arith}
 use lib.Dec.{eqb}
@@ -11,15 +11,11 @@ use lib.Ieee.{Float, nan, binary64, of_bits, div}
 use borrow.Author.Tests.{eq-eqb, ne_eqb}
 use Rattle.sphericalpoint.specs.declared.SphericalPoint.{SphericalPoint}
 use Rattle.arcstring_check.specs.declared.check.Refusal.{Refusal}
-use Rattle.arcstring_check.specs.declared.check.Checked.{Checked}
-use Rattle.arcstring_check.specs.declared.check.Checked.TheVariants.{Accepted, Refused}
-use Rattle.arcstring_check.specs.Answer.{Answer, refused, answered, first_of, leaves, pick, refusal_number}
+use Rattle.arcstring_check.specs.Answer.{Answer, refused, answered, leaves, pick, refusal_number}
 use Rattle.arcstring.specs.Points.{points, point_at, no_point}
 use Rattle.arcstring.specs.Splice.{splice}
-use Rattle.arcstring_check.specs.Check.{check_number, stored_check, room_check}
-use Rattle.arcstring_check.proofs.Answers.{refused_in_turn, accepted_in_turn, first_passes, second_passes}
-use Rattle.arcstring_check.proofs.Checks.{stored_whole}
-use Rattle.arcstring_check.proofs.Rooms.{room_fits}
+use Rattle.arcstring_check.specs.Check.{stored_check, room_check}
+use Rattle.arcstring_check.proofs.Answers.{stopped, went_on}
 use Rattle.arcstring.proofs.Flat.{length-points, point_at_lem, count_points}
 use Rattle.arcstring.proofs.Splices.{set-splice, spliced_next, splice_front, splice_nothing}
 use Rattle.arcstring_measure.specs.Measure.{position_before, turn, turn_at, turns_to, turn_orientations, turns_result}
@@ -56,7 +52,8 @@ module _ (v : List Float) (n : ℕ) (closed : Bool) (k : ℕ) (whole : length v 
 
   -- a, b and c as the code reads them at i, k and j
   pub turn_there : (i j : ℕ) (a b c : SphericalPoint) (r : Float) → not closed && (eqb k 0 || eqb (k + 1) n) ≡ false → k < n → i < n → j < n
-      → i ≡ position_before k n → a ≡ point_at v i → b ≡ point_at v k → j ≡ position_after k n → c ≡ point_at v j → r ≡ turn a b c → r ≡ turn_at (points v) closed k
+      → i ≡ position_before k n → a ≡ point_at v i → b ≡ point_at v k → j ≡ position_after k n → c ≡ point_at v j → r ≡ turn a b c
+      → r ≡ turn_at (points v) closed k
   turn_there i j a b c r h hk hi hj ei ea eb ej ec er =
       let pa : get_or (points v) i no_point ≡ point_at v i = point_at_lem v i no_point (omega arith) in
       let pb : get_or (points v) k no_point ≡ point_at v k = point_at_lem v k no_point (omega arith) in
@@ -88,41 +85,36 @@ turns_step ps closed k old out x h l before e =
     ∙ ap (λ (y : Float). splice old 0 (turns_to ps closed k ++ (y ∷ []))) e
     ∙ ap (splice old 0) (sym (turns_more ps closed k))
 
-pub turns_all : (ps : List SphericalPoint) (closed : Bool) (n k : ℕ) (old out : List Float) → k ≡ n → out ≡ splice old 0 (turns_to ps closed k)
-    → out ≡ splice old 0 (turns_to ps closed n)
-turns_all ps closed n k old out e before = before ∙ ap (λ (j : ℕ). splice old 0 (turns_to ps closed j)) e
-
 -- ---- the answer, and the buffer
 
-module _ (k : Checked) (v : List Float) (closed : Bool) (old : List Float)
-    (number : check_number k ≡ first_of (stored_check v) (room_check (length v / 3) (length old))) where
-  counted : check_number k ≡ first_of (stored_check v) (room_check (length (points v)) (length old))
-  counted = number ∙ ap (λ (n : ℕ). first_of (stored_check v) (room_check n (length old))) (sym (count_points v))
+module _ (v : List Float) (closed : Bool) (old : List Float) where
+  abbrev Turned : Answer ℕ → List Float → Type 0
+  Turned r out = (r ≡ turns_result (turn_orientations v closed (length old))) × (out ≡ leaves (turn_orientations v closed (length old)) old)
 
-  pub refused_turns : (e : Refusal) → k ≡ Refused e →
-      (refused (refusal_number e) ≡ turns_result (turn_orientations v closed (length old))) × (old ≡ leaves (turn_orientations v closed (length old)) old)
+  not_turned : (e : Refusal) → refused (refusal_number e) ≡ turn_orientations v closed (length old) → Turned (refused (refusal_number e)) old
+  not_turned e r = (ap turns_result r, ap (λ (a : Answer (List Float)). leaves a old) r)
+
+  pub refused_turns : (e : Refusal) → refusal_number e ≡ stored_check v → Turned (refused (refusal_number e)) old
   unfolding turn_orientations
-  refused_turns e told =
-      let r : refused (refusal_number e) ≡ turn_orientations v closed (length old) = refused_in_turn k e (stored_check v)
-      (room_check (length (points v)) (length old) ∷ []) _ told counted in
-      (ap turns_result r, ap (λ (a : Answer (List Float)). leaves a old) r)
+  refused_turns e number = not_turned e (stopped e (stored_check v) _ number)
 
-  pub written_turns : (out : List Float) → k ≡ Accepted → out ≡ splice old 0 (turns_to (points v) closed (length v / 3)) →
-      (answered (length v / 3) ≡ turns_result (turn_orientations v closed (length old))) × (out ≡ leaves (turn_orientations v closed (length old)) old)
-  unfolding turn_orientations
-  written_turns out told w =
-      let turns = turns_to (points v) closed (length (points v)) in
-      let r : answered turns ≡ turn_orientations v closed (length old) = accepted_in_turn k (stored_check v) (room_check (length (points v)) (length old) ∷ [])
-      (answered turns) told counted in (
-        ap answered (sym (length_turns (points v) closed (length (points v)) ∙ count_points v)) ∙ ap turns_result r,
-        w ∙ ap (λ (n : ℕ). splice old 0 (turns_to (points v) closed n)) (sym (count_points v)) ∙ splice_front old (length turns) turns refl
-            ∙ ap (λ (a : Answer (List Float)). leaves a old) r,
-      )
+  module _ (passed : 0 ≡ stored_check v) where
+    counted : room_check (length v / 3) (length old) ≡ room_check (length (points v)) (length old)
+    counted = ap (λ (n : ℕ). room_check n (length old)) (sym (count_points v))
 
-  -- accepted vertices are whole triples, and there is room for a float for each
-  pub turns_triples : k ≡ Accepted → length v ≡ 3 * (length v / 3)
-  turns_triples told = (stored_whole v (first_passes (stored_check v) (room_check (length v / 3) (length old)) (sym number ∙ ap check_number told))).triples
+    pub cramped_turns : (e : Refusal) → refusal_number e ≡ room_check (length v / 3) (length old) → Turned (refused (refusal_number e)) old
+    unfolding turn_orientations
+    cramped_turns e number =
+        not_turned e (stopped e (room_check (length (points v)) (length old)) _ (number ∙ counted) ∙ went_on (stored_check v) _ passed)
 
-  pub turns_room : k ≡ Accepted → length v / 3 ≤ length old
-  turns_room told = room_fits (length v / 3) (length old)
-      (second_passes (stored_check v) (room_check (length v / 3) (length old)) (sym number ∙ ap check_number told))
+    pub written_turns : (out : List Float) → 0 ≡ room_check (length v / 3) (length old) → out ≡ splice old 0 (turns_to (points v) closed (length v / 3))
+        → Turned (answered (length v / 3)) out
+    unfolding turn_orientations
+    written_turns out room w =
+        let turns = turns_to (points v) closed (length (points v)) in
+        let r : answered turns ≡ turn_orientations v closed (length old) =
+        went_on (room_check (length (points v)) (length old)) (answered turns) (room ∙ counted) ∙ went_on (stored_check v) _ passed in (
+          ap answered (sym (length_turns (points v) closed (length (points v)) ∙ count_points v)) ∙ ap turns_result r,
+          w ∙ ap (λ (n : ℕ). splice old 0 (turns_to (points v) closed n)) (sym (count_points v)) ∙ splice_front old (length turns) turns refl
+              ∙ ap (λ (a : Answer (List Float)). leaves a old) r,
+        )

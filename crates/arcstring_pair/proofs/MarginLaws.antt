@@ -132,7 +132,8 @@ some_wider m n h (x ∷ s) k = go (grazes m x) (grazes n x) (wider m n x h) k (s
 -- the class where some side value grazes, or none
 abbrev classed : SphericalPoint → Leg → Leg → List Float → Bool → Pair
 classed t a b s g =
-    pick g (Grazing (grazing_outcome t a b s)) (pick (every_side is_above s) (end_or_clean t a b) (pick (every_side is_below s) (end_or_clean (xyz_neg t) a b) Apart))
+    pick g (Grazing (grazing_outcome t a b s))
+    (pick (every_side is_above s) (end_or_clean t a b) (pick (every_side is_below s) (end_or_clean (xyz_neg t) a b) Apart))
 
 pub wider_margin : WiderMargin
 unfolding pair_of class_at

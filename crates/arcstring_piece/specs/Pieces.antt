@@ -1,16 +1,10 @@
 -- Pieces as they stand at the start of lists that are worked on: for the contracts of inner functions. Definitions only.
 use Rattle.std.specs.Prelude.{◌≡◌, Bool, true, not, ◌&&◌, List, [], ◌∷◌, ℕ, ◌+◌, ◌*◌, ◌≤◌, length, take, drop, eqb, Float}
-use Rattle.arcstring_check.specs.Answer.{Answer, refused, answered, refusal_number}
 use Rattle.arcstring.specs.declared.inner.vertex.Vertex.{Vertex}
 use Rattle.arcstring.specs.Points.{StringOf, numbered, places_of, points}
 use Rattle.arcstring_check.specs.Check.{most_points}
-use Rattle.arcstring_split_leg.specs.declared.inner.Cut.{Cut}
-use Rattle.arcstring_split_leg.specs.declared.inner.Cut.TheVariants as C
 
--- room for the points that one piece of a cut is built from, and for the vertices of both pieces
-abbrev pub read_room : ℕ
-read_room = most_points + 2
-
+-- room for the vertices of both pieces of a cut
 abbrev pub built_room : ℕ
 built_room = 2 * (most_points + 1)
 
@@ -18,11 +12,11 @@ built_room = 2 * (most_points + 1)
 abbrev pub piece : List Vertex → Bool → StringOf Vertex
 piece vs closed = record { vertices = vs; near = places_of vs; closed = closed }
 
--- pieces by their counts and flags, one after another; a flag is 0 for open
-unfoldable pub pieces_of : List ℕ → List ℕ → List Vertex → List (StringOf Vertex)
+-- pieces by their counts and whether they are closed, one after another
+unfoldable pub pieces_of : List ℕ → List Bool → List Vertex → List (StringOf Vertex)
 pieces_of [] flags vs = []
 pieces_of (c ∷ counts) [] vs = []
-pieces_of (c ∷ counts) (f ∷ flags) vs = piece (take c vs) (not (eqb f 0)) ∷ pieces_of counts flags (drop c vs)
+pieces_of (c ∷ counts) (f ∷ flags) vs = piece (take c vs) f ∷ pieces_of counts flags (drop c vs)
 
 abbrev pub sum : List ℕ → ℕ
 sum [] = 0
@@ -34,15 +28,11 @@ all_some [] = true
 all_some (n ∷ ns) = not (eqb n 0) && all_some ns
 
 -- the first m pieces of lists that are worked on: vertices, their numbers, counts and flags
-unfoldable pub first_pieces : ℕ → List Float → List ℕ → List ℕ → List ℕ → List (StringOf Vertex)
+unfoldable pub first_pieces : ℕ → List Float → List ℕ → List ℕ → List Bool → List (StringOf Vertex)
 first_pieces m v buoys counts flags = pieces_of (take m counts) (take m flags) (numbered (points v) buoys)
 
-abbrev pub held_pieces : Cut → List Float → List ℕ → List ℕ → List ℕ → Answer (List (StringOf Vertex))
-held_pieces (C.Pieces m) v buoys counts flags = answered (first_pieces m v buoys counts flags)
-held_pieces (C.Refused e) v buoys counts flags = refused (refusal_number e)
-
 -- Room for m pieces: none of them empty, at most 1,024 points together, and so at most 1,024 pieces.
-pub record Stands (m : ℕ) (v : List Float) (buoys counts flags : List ℕ) : Type 0 where
+pub record Stands (m : ℕ) (v : List Float) (buoys counts : List ℕ) (flags : List Bool) : Type 0 where
   pub floats : length v ≡ 3 * most_points
   pub buoys_room : length buoys ≡ most_points
   pub counts-room : length counts ≡ most_points

@@ -4,9 +4,7 @@ use Rattle.sphericalpoint.specs.declared.SphericalPoint.{SphericalPoint}
 use Rattle.sphericalpoint.specs.Vector.{xyz_eq}
 use Rattle.sphericalpoint.specs.Point.{point_from}
 use Rattle.sphericalpoint_coplanar.specs.Coplanar.{xyzs_coplanar}
-use Rattle.arcstring_point.specs.declared.point.Pointed.{Pointed}
-use Rattle.arcstring_point.specs.declared.point.Pointed.TheVariants as P
-use Rattle.arcstring_check.specs.Answer.{Answer, refused, answered, unless_refused, refusal_number}
+use Rattle.arcstring_check.specs.Answer.{Answer, answered, unless_refused}
 use Rattle.arcstring_check.specs.Check.{point_check}
 
 unfoldable pub equal_points : SphericalPoint → SphericalPoint → Answer Bool
@@ -17,9 +15,3 @@ coplanar_points a b c = unless_refused (point_check a) (unless_refused (point_ch
 
 unfoldable pub built_point : SphericalPoint → Answer SphericalPoint
 built_point p = unless_refused (point_check p) (answered (point_from p))
-
--- ---- what is answered
-
-abbrev pub pointed_answer : Pointed → Answer SphericalPoint
-pointed_answer (P.Point p) = answered p
-pointed_answer (P.Refused e) = refused (refusal_number e)

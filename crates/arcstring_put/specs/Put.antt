@@ -1,6 +1,6 @@
 -- What a C program lends as the string layer reads it, and the layer's answers as the program gets them: a number that is 0 or the
 -- refusal's, and results in the places that were lent for them. Definitions only.
-use Rattle.std.specs.Prelude.{Bool, not, List, [], ◌∷◌, ℕ, eqb, get_or, Float}
+use Rattle.std.specs.Prelude.{◌≡◌, Bool, not, List, [], ◌∷◌, ℕ, eqb, get_or, Float}
 use Rattle.std.specs.Float.{nan}
 use Rattle.sphericalpoint.specs.declared.SphericalPoint.{SphericalPoint}
 use Rattle.arcstring_check.specs.Answer.{Answer, refused, answered, flag_number}
@@ -28,6 +28,11 @@ answer_number (answered x) = 0
 abbrev pub left_in : {A B : Type 0} → (A → B) → Answer A → B → B
 left_in part (refused n) old = old
 left_in part (answered x) old = part x
+
+-- what a place lent for the whole result holds, where a conversion gives what is put there
+abbrev pub Leaves : {A B : Type 0} → (A → B → Type 0) → Answer A → B → B → Type 0
+Leaves gives (refused n) old new = new ≡ old
+Leaves gives (answered x) old new = gives x new
 
 -- ---- the parts of each answer
 

@@ -26,9 +26,11 @@ crosses a a_near a_closed b b_near b_closed = two_strings a a_near b b_near (ans
 -- the vertices of the first along the second: the first string's near list and flag are not read
 unfoldable pub within : List Float → List Float → List Float → Bool → Answer Bool
 within a b b_near b_closed =
-    unless_refused (stored_check a) (unless_refused (stored_check b) (unless_refused (stored_check b_near) (answered (all_along (points a) (stored b b_near b_closed)))))
+    unless_refused (stored_check a)
+    (unless_refused (stored_check b) (unless_refused (stored_check b_near) (answered (all_along (points a) (stored b b_near b_closed)))))
 
 -- the vertices of the second along the first
 unfoldable pub contains : List Float → List Float → Bool → List Float → Answer Bool
 contains a a_near a_closed b =
-    unless_refused (stored_check a) (unless_refused (stored_check a_near) (unless_refused (stored_check b) (answered (all_along (points b) (stored a a_near a_closed)))))
+    unless_refused (stored_check a)
+    (unless_refused (stored_check a_near) (unless_refused (stored_check b) (answered (all_along (points b) (stored a a_near a_closed)))))

@@ -12,4 +12,5 @@ verdict_of (answered b) = some b
 -- `contains` is `within` with the strings traded, for any lists: both give the same verdict, or both refuse. Their lists are checked in another order, so that
 -- where lists of both strings are wrong the numbers may differ.
 abbrev pub ContainsIsWithin : Type 0
-ContainsIsWithin = (a a_near : List Float) (a_closed : Bool) (b : List Float) → verdict_of (contains a a_near a_closed b) ≡ verdict_of (within b a a_near a_closed)
+ContainsIsWithin =
+    (a a_near : List Float) (a_closed : Bool) (b : List Float) → verdict_of (contains a a_near a_closed b) ≡ verdict_of (within b a a_near a_closed)

@@ -31,7 +31,8 @@ module _ {A B : Type 0} (f : A → B) where
   unfolding remove_all
   map_removed [] xs = refl
   map_removed (u ∷ us) xs =
-      map_then (map f) (remove_all us xs) (remove_at u) (remove_at u) (map_removed_at u) ∙ ap (λ (a : Answer (List B)). and_then a (remove_at u)) (map_removed us xs)
+      map_then (map f) (remove_all us xs) (remove_at u) (remove_at u) (map_removed_at u)
+      ∙ ap (λ (a : Answer (List B)). and_then a (remove_at u)) (map_removed us xs)
 
   module _ (pt : A → SphericalPoint) (qt : B → SphericalPoint) (same : (x : A) → qt (f x) ≡ pt x) where
     pub same_points : (xs : List A) → map qt (map f xs) ≡ map pt xs

@@ -40,7 +40,8 @@ module _ {A : Type 0} (pt : A → SphericalPoint) where
         one_keeps k mid.0 qs low mid.2 (rest mid.0 mid.1 p)
     run_by false k us ps qs low rest h p = rest qs h p
 
-    run_keeps : (judge : List SphericalPoint) (k count : ℕ) (ps qs : List A) → 1 ≤ k → remove_all (unnecessary_from judge k count) ps ≡ answered qs → P ps → P qs
+    run_keeps : (judge : List SphericalPoint) (k count : ℕ) (ps qs : List A) → 1 ≤ k → remove_all (unnecessary_from judge k count) ps ≡ answered qs
+        → P ps → P qs
     unfolding unnecessary_from remove_all
     run_keeps judge k zero ps qs low h p = subst P (same_answer ps qs h) p
     run_keeps judge k (suc count) ps qs low h p =

@@ -22,7 +22,8 @@ pub lists_normalized : (ps : List Pair) → Lists ps (normalized_listing (listin
 unfolding listing_of normalized_listing
 lists_normalized ps = record { as_many = length-map (kept_marks ps) _; same_counts = refl }
 
-pub normalized-points : (ps : List Pair) → flat (normalized_all (map mark_point (kept_marks ps))) ≡ flat (map mark_point (normalized_listing (listing_of ps)).marks)
+pub normalized-points : (ps : List Pair)
+    → flat (normalized_all (map mark_point (kept_marks ps))) ≡ flat (map mark_point (normalized_listing (listing_of ps)).marks)
 unfolding listing_of normalized_listing
 normalized-points ps = ap flat (map-map normalized_unless_short mark_point (kept_marks ps) ∙ sym (map-map mark_point _ (kept_marks ps)))
 
@@ -33,7 +34,8 @@ normalized_bytes ps = sym (map-map mark_byte _ (kept_marks ps))
 -- the kept points at the start of a buffer, normalised where they stand
 pub normalized-in_place : (ps : List Pair) (n : ℕ) (old mid last : List Float) → n ≡ length (kept_marks ps) → mid
     ≡ splice old 0 (flat (map mark_point (kept_marks ps)))
-    → last ≡ flat (normalized_all (points (take (3 * n) mid))) ++ drop (3 * n) mid → last ≡ splice old 0 (flat (normalized_all (map mark_point (kept_marks ps))))
+    → last ≡ flat (normalized_all (points (take (3 * n) mid))) ++ drop (3 * n) mid
+    → last ≡ splice old 0 (flat (normalized_all (map mark_point (kept_marks ps))))
 normalized-in_place ps n old mid last h first second =
     let qs = map mark_point (kept_marks ps) in
     let c : length qs ≡ n = length-map (kept_marks ps) mark_point ∙ sym h in
@@ -43,7 +45,8 @@ normalized-in_place ps n old mid last h first second =
     ∙ points-flat qs in
     let d : drop (3 * n) mid ≡ drop (3 * n) old = ap (drop (3 * n)) m ∙ drop_at (flat qs) (drop (3 * n) old) (3 * n) e in
     let k : length (flat (normalized_all qs)) ≡ 3 * n = length-flat (normalized_all qs) ∙ ap (λ (j : ℕ). 3 * j) (length-map qs normalized_unless_short ∙ c) in
-    second ∙ ap₂ (λ (rs : List SphericalPoint) (r : List Float). flat (normalized_all rs) ++ r) t d ∙ sym (splice_front old (3 * n) (flat (normalized_all qs)) k)
+    second ∙ ap₂ (λ (rs : List SphericalPoint) (r : List Float). flat (normalized_all rs) ++ r) t d
+    ∙ sym (splice_front old (3 * n) (flat (normalized_all qs)) k)
 
 pub none_normalized : (ps : List Pair) (points : List Float) (marks : List ℕ) → kept_marks ps ≡ []
     → (points ≡ splice points 0 (flat (normalized_all (map mark_point (kept_marks ps))))) × (marks ≡ splice marks 0 (map mark_byte (kept_marks ps)))

@@ -1,13 +1,14 @@
 -- What the tests with zero say of a float, the sign of a zero included, and what the same test says of all four side values. Assumes nothing.
-use mathlib.Core.Path.{◌≡◌, refl, sym, ◌∙◌}
-use mathlib.Core.Bool.{Bool, true, false, ◌&&◌, ◌||◌}
+use mathlib.Core.Path.{◌≡◌, refl, sym, ap, ◌∙◌}
+use mathlib.Core.Bool.{Bool, true, false, not, ◌&&◌, ◌||◌}
 use mathlib.Core.List.{List, [], ◌∷◌}
 use Prim.Native.Nat.{ℕ, zero, suc, ◌+◌, ◌*◌}
 use native.Mathlib.Omega.{arith}
 use native.Mathlib.Nat.{zero-mul}
 use lib.IntN.{ℤ}
 use lib.ListN.{length, get_or}
-use lib.Ieee.{Float, nan, inf, fin, binary64, of_bits, lt, eq, div, up, down}
+use lib.Ieee.{Float, nan, inf, fin, binary64, of_bits, is_nan, lt, eq, up, down}
+use Rattle.std.specs.Float.{is_sign_negative}
 use borrow.Author.Tests.{eqb-true, lt-ltb, le-ltb}
 use Rattle.ieee754.proofs.Tests.{never, and_first}
 use Rattle.ieee754.proofs.Zeros.{scaled_pos, zero-level}
@@ -16,32 +17,37 @@ use Rattle.arcstring_sides.specs.Sides.{sign_negative, sign_positive, some_side,
 abbrev zero64 : Float
 zero64 = of_bits binary64 0
 
-abbrev one64 : Float
-one64 = of_bits binary64 0x3ff0_0000_0000_0000
-
 -- only a zero equals zero
 zero_only : (s : Bool) (m : ℕ) (e : ℤ) → eq (fin s (suc m) e) zero64 ≡ true → ⊥
 unfolding eq of_bits
 zero_only s m e h = omega (arith, eqb-true (suc m * up e * 1) (0 * down e) (and_first _ _ h), zero-mul (down e), scaled_pos m e)
 
--- one over a zero is the infinity of its sign
-pub negative_of_zero : (x : Float) → eq x zero64 ≡ true → lt (div binary64 one64 x) zero64 ≡ sign_negative x
-unfolding lt eq div of_bits sign_negative
-negative_of_zero nan h = never h
-negative_of_zero (inf true) h = never h
-negative_of_zero (inf false) h = never h
-negative_of_zero (fin true zero e) h = refl
-negative_of_zero (fin false zero e) h = refl
-negative_of_zero (fin s (suc m) e) h = absurd (zero_only s m e h)
+-- ---- the library's sign bit, of what is no NaN
 
-pub positive_of_zero : (x : Float) → eq x zero64 ≡ true → lt zero64 (div binary64 one64 x) ≡ sign_positive x
-unfolding lt eq div of_bits sign_positive
-positive_of_zero nan h = never h
-positive_of_zero (inf true) h = never h
-positive_of_zero (inf false) h = never h
-positive_of_zero (fin true zero e) h = refl
-positive_of_zero (fin false zero e) h = refl
-positive_of_zero (fin s (suc m) e) h = absurd (zero_only s m e h)
+pub library_negative : (x : Float) → is_sign_negative x ≡ sign_negative x
+unfolding is_sign_negative sign_negative
+library_negative nan = refl
+library_negative (inf s) = refl
+library_negative (fin s m e) = refl
+
+pub library_positive : (x : Float) → is_nan x ≡ false → not (is_sign_negative x) ≡ sign_positive x
+unfolding is_nan is_sign_negative sign_positive
+library_positive nan h = never (sym h)
+library_positive (inf s) h = refl
+library_positive (fin s m e) h = refl
+
+-- and a NaN has neither
+pub nan_negative : (x : Float) (b : Bool) → b ≡ is_nan x → b ≡ true → not b ≡ sign_negative x
+unfolding is_nan sign_negative
+nan_negative nan b e h = ap not h
+nan_negative (inf s) b e h = never (sym e ∙ h)
+nan_negative (fin s m k) b e h = never (sym e ∙ h)
+
+pub nan_positive : (x : Float) (b : Bool) → b ≡ is_nan x → b ≡ true → not b ≡ sign_positive x
+unfolding is_nan sign_positive
+nan_positive nan b e h = ap not h
+nan_positive (inf s) b e h = never (sym e ∙ h)
+nan_positive (fin s m k) b e h = never (sym e ∙ h)
 
 -- of what is no zero, the comparison says the sign
 pub negative_of_other : (x : Float) → eq x zero64 ≡ false → lt x zero64 ≡ sign_negative x
@@ -121,8 +127,8 @@ some_of_four t (a ∷ b ∷ c ∷ d ∷ []) h = or_four (t a) (t b) (t c) (t d)
 some_of_four t (a ∷ b ∷ c ∷ d ∷ e ∷ l) h = absurd (omega arith)
 
 -- the four tests made one by one, as a function makes them that calls the test of one value
-pub every_tested : (t : Float → Bool) (s : List Float) (a b c d : Bool) → length s ≡ 4 → a ≡ t (get_or s 0 nan) → b ≡ t (get_or s 1 nan) → c ≡ t (get_or s 2 nan)
-    → d ≡ t (get_or s 3 nan) → (((a && b) && c) && d) ≡ every_side t s
+pub every_tested : (t : Float → Bool) (s : List Float) (a b c d : Bool) → length s ≡ 4 → a ≡ t (get_or s 0 nan) → b ≡ t (get_or s 1 nan)
+    → c ≡ t (get_or s 2 nan) → d ≡ t (get_or s 3 nan) → (((a && b) && c) && d) ≡ every_side t s
 every_tested t s a b c d h i j k l = rw (i, j, k, l) (every_of_four t s h)
 
 pub some_tested : (t : Float → Bool) (s : List Float) (a b c d : Bool) → length s ≡ 4 → a ≡ t (get_or s 0 nan) → b ≡ t (get_or s 1 nan) → c ≡ t (get_or s 2 nan)

@@ -1,5 +1,5 @@
 // The tests of four side values: whether one grazes, whether all are above zero or below it, their signs, and the pass's test that a pair is apart.
-ghost use Rattle.std.specs.Prelude.{◌≡◌, true, false, cond, Float};
+ghost use Rattle.std.specs.Prelude.{◌≡◌, Bool, true, false, cond, Float};
 ghost use Rattle.std.specs.Float.{binary64};
 ghost use Rattle.std.specs.Float.Ieee.{mul, lt};
 ghost use Rattle.arcstring_sides.specs.Sides.{shows_apart, grazes, is_above, is_below, sign_negative, sign_positive, some_side, every_side};
@@ -11,26 +11,41 @@ fn is_grazing(x: f64, margin: f64) -> bool
     float_sizes::inner::magnitude(x) <= margin
 }
 
-// Whether the sign bit is set, of a zero too: one over a zero is the infinity of its sign.
+fn is_above(x: f64) -> bool
+    ensures { result ≡ is_above x }
+{
+    x > 0.0
+}
+
+fn is_below(x: f64) -> bool
+    ensures { result ≡ is_below x }
+{
+    x < 0.0
+}
+
+// Whether the sign bit is set, of a zero too; a NaN has no sign here.
 fn is_sign_negative(x: f64) -> bool
     ensures { result ≡ sign_negative x }
 {
-    if x == 0.0 {
-        return 1.0 / x < 0.0;
-    }
-    x < 0.0
+    !x.is_nan() && x.is_sign_negative()
 }
 
 // Whether the sign bit is clear, of a zero too.
 fn is_sign_positive(x: f64) -> bool
     ensures { result ≡ sign_positive x }
 {
-    if x == 0.0 {
-        return 1.0 / x > 0.0;
-    }
-    x > 0.0
+    !x.is_nan() && x.is_sign_positive()
 }
 
+// Whether all four side values pass a test, with no branch.
+fn every_side<F: Fn(f64) -> bool>(s: [f64; 4], test: F) -> bool
+    requires { F.IsAlwaysCallable test }
+    ensures { (t : Float → Bool) → ((x : Float) (r : Bool) → F.post test x r → r ≡ t x) → result ≡ every_side t s }
+{
+    test(s[0]) & test(s[1]) & test(s[2]) & test(s[3])
+}
+
+// The sides are joined by `|`, and no other test asks for some side: a form of `every_side` for it would be no plainer.
 pub fn some_grazing(s: [f64; 4], margin: f64) -> bool
     ensures { result ≡ some_side (grazes margin) s }
 {
@@ -43,31 +58,25 @@ pub fn some_grazing(s: [f64; 4], margin: f64) -> bool
 pub fn all_above(s: [f64; 4]) -> bool
     ensures { result ≡ every_side is_above s }
 {
-    (s[0] > 0.0) & (s[1] > 0.0) & (s[2] > 0.0) & (s[3] > 0.0)
+    every_side(s, is_above)
 }
 
 pub fn all_below(s: [f64; 4]) -> bool
     ensures { result ≡ every_side is_below s }
 {
-    (s[0] < 0.0) & (s[1] < 0.0) & (s[2] < 0.0) & (s[3] < 0.0)
+    every_side(s, is_below)
 }
 
 pub fn all_sign_positive(s: [f64; 4]) -> bool
     ensures { result ≡ every_side sign_positive s }
 {
-    is_sign_positive(s[0])
-        & is_sign_positive(s[1])
-        & is_sign_positive(s[2])
-        & is_sign_positive(s[3])
+    every_side(s, is_sign_positive)
 }
 
 pub fn all_sign_negative(s: [f64; 4]) -> bool
     ensures { result ≡ every_side sign_negative s }
 {
-    is_sign_negative(s[0])
-        & is_sign_negative(s[1])
-        & is_sign_negative(s[2])
-        & is_sign_negative(s[3])
+    every_side(s, is_sign_negative)
 }
 
 // The smaller of two floats, with no branch; the second where either is a NaN.

@@ -32,7 +32,8 @@ numbered_again (x ∷ vs) = ap (λ (ws : List Vertex). x ∷ ws) (numbered_again
 
 module _ {A : Type 0} (v : List Float) (bs : List ℕ) (room buoy_room : ℕ) where
   -- it passed the checks, and this is what was answered before the rooms were looked at
-  answered_by : (n : ℕ) (a : Answer (List A)) (xs : List A) → unless_refused n (and_then a (into_rooms room buoy_room)) ≡ answered xs → (n ≡ 0) × (a ≡ answered xs)
+  answered_by : (n : ℕ) (a : Answer (List A)) (xs : List A) → unless_refused n (and_then a (into_rooms room buoy_room)) ≡ answered xs
+      → (n ≡ 0) × (a ≡ answered xs)
   unfolding into_rooms
   answered_by n (answered ys) xs h = let p = both_passed n (rooms_check (length ys) room buoy_room) ys xs h in (p.0, ap answered p.2)
   answered_by zero (refused m) xs h = absurd (let z : ◌≡◌ {A = ℕ} 0 1 = cc in omega arith)

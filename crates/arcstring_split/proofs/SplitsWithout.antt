@@ -67,5 +67,6 @@ split_alike v bs cs closed extra es fs room buoy_room counts_room flags_room sam
 pub cut_buoys : CutBuoys
 cut_buoys = record {
   first = λ x vs i. let ys = first_points x vs i in built_buoys_lem ys ∙ ap (take (length (built_string (places_of ys)).vertices)) (map_first buoy_of x vs i);
-  second = λ x vs i. let ys = second_points x vs i in built_buoys_lem ys ∙ ap (take (length (built_string (places_of ys)).vertices)) (map_second buoy_of x vs i);
+  second = λ x vs i. let ys = second_points x vs i in
+      built_buoys_lem ys ∙ ap (take (length (built_string (places_of ys)).vertices)) (map_second buoy_of x vs i);
 }

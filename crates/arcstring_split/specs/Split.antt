@@ -28,7 +28,8 @@ unfoldable pub split_into : {A : Type 0} → List Float → List ℕ → List Fl
     → Answer (Option (List (StringOf A)))
 split_into {A} v buoys extra extra_buoys room buoy_room counts_room flags_room a =
     unless_refused (string_check v buoys)
-    (unless_refused (points_check extra extra_buoys) (and_then a (λ (ss : List (StringOf A)). pieces_into room buoy_room counts_room flags_room (unless_uncut ss))))
+    (unless_refused (points_check extra extra_buoys)
+    (and_then a (λ (ss : List (StringOf A)). pieces_into room buoy_room counts_room flags_room (unless_uncut ss))))
 
 -- The string is copied, as the Rust copies it: its near list is not looked at, so that none is handed in, and the copy's is its vertices.
 abbrev pub numbered_copy : List Float → List ℕ → Bool → StringOf Vertex

@@ -1,3 +1,4 @@
--- The definitions of splitting legs. `Legs` serves inner contracts alone.
+-- The definitions of splitting legs. `Legs` and `Worked` serve inner contracts alone.
 pub mod SplitLeg
 pub mod Legs
+pub mod Worked

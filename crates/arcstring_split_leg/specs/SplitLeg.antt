@@ -1,16 +1,16 @@
 -- Splitting one leg, as `split_arc_at_points` does it, and *uncut*, the answer where nothing is cut. Definitions only.
-use Rattle.std.specs.Prelude.{Bool, not, ◌&&◌, ◌||◌, List, [], ◌∷◌, ◌++◌, map, ℕ, ◌+◌, ◌*◌, length, get_or, take, drop, Float}
+use Rattle.std.specs.Prelude as Std
+use Rattle.std.specs.Prelude.{Bool, not, ◌&&◌, ◌||◌, List, [], ◌∷◌, ◌++◌, map, ℕ, ◌+◌, ◌*◌, length, get_or, take, drop, Float, Result}
 use Rattle.std.proofs.Math.Option.{Option, none, some}
 use Rattle.sphericalpoint.specs.declared.SphericalPoint.{SphericalPoint}
 use Rattle.sphericalpoint.specs.Vector.{xyz_eq}
-use Rattle.arcstring_check.specs.Answer.{Answer, refused, answered, unless_refused, and_then, pick, refusal_number}
+use Rattle.arcstring_check.specs.Answer.{Answer, answered, unless_refused, map_answer, and_then, pick, answer_of, option_of}
 use Rattle.arcstring.specs.Points.{points, flat, no_point}
 use Rattle.arcstring_check.specs.Check.{room_check}
 use Rattle.arcstring.specs.Leg.{Leg, leg, leg_check}
 use Rattle.arcstring_along.specs.OnString.{along_leg}
 use Rattle.arcstring_insert.specs.Steps.{for_each, for_positions, extra_check, limited}
-use Rattle.arcstring_split_leg.specs.declared.split.Split.{Split}
-use Rattle.arcstring_split_leg.specs.declared.split.Split.TheVariants as S
+use Rattle.arcstring_check.specs.declared.check.Refusal.{Refusal}
 
 -- ---- the cuts
 
@@ -52,10 +52,8 @@ abbrev pub of_pieces : {A B : Type 0} → (List A → List B) → Option (List A
 of_pieces f none = []
 of_pieces f (some l) = f l
 
-abbrev pub split_answer : Split → Answer (Option ℕ)
-split_answer S.Uncut = answered none
-split_answer (S.Pieces n) = answered (some n)
-split_answer (S.Refused e) = refused (refusal_number e)
+abbrev pub split_answer : Result (Std.Option ℕ) Refusal → Answer (Option ℕ)
+split_answer r = map_answer option_of (answer_of r)
 
 -- ---- the call
 

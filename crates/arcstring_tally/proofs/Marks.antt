@@ -29,10 +29,14 @@ bytes_of ps = map mark_byte (kept_marks ps)
 abbrev pub Room : List Pair → ℕ → List Float → List ℕ → Type 0
 Room ps at points marks = (3 * (at + length (kept_marks ps)) ≤ length points) × (at + length (kept_marks ps) ≤ length marks)
 
--- what these pairs keep is written from place `at` on, and `next` is the next place
+-- what these pairs keep is written from place `at` on
+abbrev pub Stored : List Pair → ℕ → List Float → List ℕ → List Float → List ℕ → Type 0
+Stored ps at points marks points' marks' = (points' ≡ splice points (3 * at) (points_of ps)) × (marks' ≡ splice marks at (bytes_of ps))
+
+-- and `next` is the next place
 abbrev pub Written : List Pair → ℕ → List Float → List ℕ → ℕ → List Float → List ℕ → Type 0
 Written ps at points marks next points' marks' =
-    (next ≡ at + length (kept_marks ps)) × ((points' ≡ splice points (3 * at) (points_of ps)) × (marks' ≡ splice marks at (bytes_of ps)))
+    (next ≡ at + length (kept_marks ps)) × Stored ps at points marks points' marks'
 
 -- what is written so far, with what is still to be written, is what all the pairs keep
 pub record WritesSame (ps : List Pair) (at : ℕ) (points : List Float) (marks : List ℕ) (qs : List Pair) (next : ℕ) (points' : List Float)
@@ -81,11 +85,11 @@ module _ (ps : List Pair) (at : ℕ) (points : List Float) (marks : List ℕ) wh
 
   pub one_written : (x : SphericalPoint) (byte : ℕ) (points' : List Float) (marks' : List ℕ) → kept_marks ps ≡ record { point = x; byte = byte } ∷ []
       → (points' ≡ splice points (3 * at) (x.x ∷ x.y ∷ x.z ∷ [])) × (marks' ≡ splice marks at (byte ∷ []))
-      → Written ps at points marks (at + 1) points' marks'
-  one_written x byte points' marks' h w = rw h (refl, (w.0, w.1))
+      → Stored ps at points marks points' marks'
+  one_written x byte points' marks' h w = rw h w
 
-  pub none_written : kept_marks ps ≡ [] → Written ps at points marks at points marks
-  none_written h = rw h (omega arith, (sym (splice_nothing points (3 * at)), sym (splice_nothing marks at)))
+  pub none_written : kept_marks ps ≡ [] → Stored ps at points marks points marks
+  none_written h = rw h (sym (splice_nothing points (3 * at)), sym (splice_nothing marks at))
 
 -- ---- pairs after pairs
 

@@ -36,5 +36,6 @@ pub record RoomIf (write : Bool) (ps : List Pair) (at : ℕ) (points : List Floa
 
 -- where it writes, what these pairs keep is written from place `at` on; else the buffers are as they were
 pub record WrittenIf (write : Bool) (ps : List Pair) (at : ℕ) (points : List Float) (marks : List ℕ) (points' : List Float) (marks' : List ℕ) : Type 0 where
-  pub on : write ≡ true → (points' ≡ splice points (3 * at) (flat (map mark_point (kept_marks ps)))) × (marks' ≡ splice marks at (map mark_byte (kept_marks ps)))
+  pub on : write ≡ true → (points' ≡ splice points (3 * at) (flat (map mark_point (kept_marks ps))))
+      × (marks' ≡ splice marks at (map mark_byte (kept_marks ps)))
   pub off : write ≡ false → (points' ≡ points) × (marks' ≡ marks)

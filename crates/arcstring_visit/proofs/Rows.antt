@@ -28,7 +28,8 @@ module _ (margin : Float) (v : List Float) (n : ℕ) (whole : length v ≡ 3 * n
       (sym (hp ∙ ap (pair_of margin a) hx))
 
   pub between_next : (x : Leg) (b : List Float) (lb i to : ℕ) → i < to → to ≤ n → x ≡ leg_at v n i
-      → pairs_between margin (legs_from v i to) (legs_from b 0 lb) ≡ row_pairs margin x b 0 lb ++ pairs_between margin (legs_from v (i + 1) to) (legs_from b 0 lb)
+      → pairs_between margin (legs_from v i to) (legs_from b 0 lb)
+      ≡ row_pairs margin x b 0 lb ++ pairs_between margin (legs_from v (i + 1) to) (legs_from b 0 lb)
   unfolding pairs_between row_pairs
   between_next x b lb i to h l hx =
       let bs = legs_from b 0 lb in
@@ -131,7 +132,8 @@ module _ (margin : Float) (within : Bool) (a : List Float) (n : ℕ) (whole : le
     where
       go : (w : Bool) → (w ≡ true → (a ≡ b) × (la ≡ lb)) → from ≡ pick w (i + 2) 0
           → pick w (pairs_within margin (legs_from a i la)) (pairs_between margin (legs_from a i la) (legs_from b 0 lb))
-          ≡ row_pairs margin x b from lb ++ pick w (pairs_within margin (legs_from a (i + 1) la)) (pairs_between margin (legs_from a (i + 1) la) (legs_from b 0 lb))
+          ≡ row_pairs margin x b from lb ++ pick w (pairs_within margin (legs_from a (i + 1) la))
+          (pairs_between margin (legs_from a (i + 1) la) (legs_from b 0 lb))
       go true s e = let t = s refl in rw (e, ← t.0, ← t.1) (within-next margin a n whole x i la h short hx)
       go false s e = rw e (between_next margin a n whole x b lb i la h short hx)
 

@@ -7,16 +7,15 @@ use native.Mathlib.Numerals.{add-one}
 use native.Mathlib.Omega.{arith}
 use borrow.Author.Tests.{eqb-true}
 use lib.Dec.{eqb}
-use native.Mathlib.Nat.{add-zero}
+use native.Mathlib.Nat.{add-zero, sub-zero}
 use lib.ListN.{length, get_or, take, replicate, length-map, length-replicate}
-use lib.Seq.{drop-cons, length-take-le}
+use lib.Seq.{drop-cons, length-take-le, take-length, get_or-take}
 use lib.Ieee.{Float}
 use Rattle.arcstring_pair.specs.declared.pair.Pair.{Pair}
 use Rattle.arcstring_pair.specs.declared.pair.Pair.TheVariants.{Apart}
 use Rattle.arcstring.specs.Leg.{Leg, leg_at}
 use Rattle.arcstring_pair.specs.Pair.{pair_of}
-use Rattle.arcstring_crossing.specs.declared.inner.planes.Plane.{Plane}
-use Rattle.arcstring_crossing.specs.Plane.{plane_of, PlanesOf, FlagsOf, flagged_from}
+use Rattle.arcstring_crossing.specs.Plane.{FlagsOf, flagged_from}
 use Rattle.arcstring_tally.specs.declared.inner.tally.Tally.{Tally}
 use Rattle.arcstring_tally.specs.Pairs.{Mark, total, one_clean, one_end, one_grazing, one_apart, kept_marks}
 use Rattle.arcstring_tally.specs.Tally.{tally_on, tally_sum, RoomIf, WrittenIf}
@@ -103,8 +102,7 @@ module _ (margin : Float) (a : Leg) (v : List Float) (n : ℕ) where
   unfolding found_pairs
   found_few flagged m h = omega (arith, length-map (take (m - 0) flagged) pair_at, length-take-le (m - 0) flagged (omega arith))
 
-  module _ (whole : length v ≡ 3 * n) (plane : Plane) (known : plane ≡ plane_of a) (planes : List Float) (w from to : ℕ) (short : to ≤ n)
-      (kept : PlanesOf v n to planes w) (flags : List ℕ) (told : FlagsOf margin plane planes w from to flags) where
+  module _ (whole : length v ≡ 3 * n) (from to : ℕ) (short : to ≤ n) (flags : List ℕ) (told : FlagsOf margin a v n from to flags) where
     record Row (c k : ℕ) : Type 0 where
       left : ℕ
       sum : length (flagged_from flags k c) + left ≡ c
@@ -115,7 +113,7 @@ module _ (margin : Float) (a : Leg) (v : List Float) (n : ℕ) where
     step c k true e l h r =
         let q : flagged_from flags k (suc c) ≡ flagged_from flags (k + 1) c = rw e in
         let x = leg_at v n k in
-        let row = row_next margin v n whole a x Apart k to l short refl (told.each k h l a x known (kept.each k l) (eqb-true (get_or flags k 0) 0 e)) in
+        let row = row_next margin v n whole a x Apart k to l short refl (told.each k h l (eqb-true (get_or flags k 0) 0 e)) in
         record { left = suc r.left; sum = omega (arith, ap length q, r.sum); sifted = rw (row, q) (left_out r.sifted) }
     step c k false e l h r =
         let q : flagged_from flags k (suc c) ≡ k ∷ flagged_from flags (k + 1) c = rw e in
@@ -127,11 +125,16 @@ module _ (margin : Float) (a : Leg) (v : List Float) (n : ℕ) where
     sifts zero k e h = record { left = 0; sum = refl; sifted = rw (row_none margin a v k to (omega arith)) none }
     sifts (suc c) k e h = step c k (eqb (get_or flags k 0) 0) refl (omega arith) h (sifts c (k + 1) (omega arith) (omega arith))
 
-    pub row_sifted : (flagged : List ℕ) (m : ℕ) → take m flagged ≡ flagged_from flags from (to - from) → m ≤ length flagged
-        → Sifted (row_pairs margin a v from to) (found_pairs margin a v n flagged 0 m) (to - from - m)
+    pub row_sifted : (found : List ℕ) (m : ℕ) → length found ≡ m → found ≡ flagged_from flags from (to - from)
+        → Sifted (row_pairs margin a v from to) (found_pairs margin a v n found 0 (length found)) (to - from - m)
     unfolding found_pairs
-    row_sifted flagged m e fits =
+    row_sifted found m long e =
         let r = sifts (to - from) from refl (omega arith) in
-        let z : m - 0 ≡ m = omega arith in
-        let left : r.left ≡ to - from - m = omega (arith, r.sum, ap length e, length-take-le m flagged fits) in
+        let z : take (length found - 0) found ≡ found = rw sub-zero (take-length found) in
+        let left : r.left ≡ to - from - m = omega (arith, r.sum, ap length e) in
         rw (z, e, ← left) r.sifted
+
+-- the first positions of a list are below what each of them is below
+pub found_below : (list : List ℕ) (m to : ℕ) → length (take m list) ≡ m → ((j : ℕ) → j < m → get_or list j 0 < to) → (j : ℕ) → j < length (take m list)
+    → get_or (take m list) j 0 < to
+found_below list m to long below j h = let l : j < m = omega arith in rw (get_or-take m list j 0 l) (below j l)

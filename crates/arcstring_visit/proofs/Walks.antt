@@ -9,8 +9,7 @@ use lib.Ieee.{Float}
 use Rattle.arcstring_pair.specs.declared.pair.Pair.{Pair}
 use Rattle.arcstring_pair.specs.declared.pair.Pair.TheVariants.{Apart}
 use Rattle.arcstring.specs.Leg.{Leg, leg_at}
-use Rattle.arcstring_crossing.specs.declared.inner.planes.Plane.{Plane}
-use Rattle.arcstring_crossing.specs.Plane.{plane_of, PlanesOf, AllApart}
+use Rattle.arcstring_crossing.specs.Plane.{AllApart}
 use Rattle.arcstring_tally.specs.declared.inner.tally.Tally.{Tally}
 use Rattle.arcstring_tally.specs.Pairs.{kept_marks}
 use Rattle.arcstring_tally.specs.Tally.{no_tally, tally_on, RoomIf, WrittenIf}
@@ -67,14 +66,13 @@ no_room_asked write ps at points marks h = record { fits = λ o. absurd (let z :
 
 -- ---- a row whose pairs are all apart
 
-module _ (margin : Float) (a : Leg) (v : List Float) (n : ℕ) (whole : length v ≡ 3 * n) (plane : Plane) (known : plane ≡ plane_of a) (planes : List Float)
-    (w from to : ℕ)
-    (short : to ≤ n) (kept : PlanesOf v n to planes w) (apart : AllApart margin plane planes w from to) where
+module _ (margin : Float) (a : Leg) (v : List Float) (n : ℕ) (whole : length v ≡ 3 * n) (from to : ℕ) (short : to ≤ n)
+    (apart : AllApart margin a v n from to) where
   rest_apart : (m k : ℕ) → to - k ≡ m → from ≤ k → row_pairs margin a v k to ≡ replicate m Apart
   rest_apart zero k e h = row_none margin a v k to (omega arith)
   rest_apart (suc m) k e h =
       let l : k < to = omega arith in
-      row_next margin v n whole a (leg_at v n k) Apart k to l short refl (apart.each k h l a (leg_at v n k) known (kept.each k l))
+      row_next margin v n whole a (leg_at v n k) Apart k to l short refl (apart.each k h l)
       ∙ ap (λ (ps : List Pair). (Apart ∷ []) ++ ps) (rest_apart m (k + 1) (omega arith) (omega arith))
 
   pub row_apart : row_pairs margin a v from to ≡ replicate (to - from) Apart
@@ -83,7 +81,7 @@ module _ (margin : Float) (a : Leg) (v : List Float) (n : ℕ) (whole : length v
 pub aparts_written : (write : Bool) (ps : List Pair) (m : ℕ) (at : ℕ) (points : List Float) (marks : List ℕ) → ps ≡ replicate m Apart
     → WrittenIf write ps at points marks points marks
 aparts_written write ps m at points marks h =
-    record { on = λ o. (none_written ps at points marks (ap kept_marks h ∙ aparts_keep_none m)).1; off = λ o. (refl, refl) }
+    record { on = λ o. none_written ps at points marks (ap kept_marks h ∙ aparts_keep_none m); off = λ o. (refl, refl) }
 
 -- ---- a tally from nothing, of all pairs of two strings
 

@@ -1,6 +1,6 @@
 -- What a walk backwards and a restart answer and leave: where a check refuses, and where the moved vertices were written. Assumes nothing.
-use mathlib.Core.Path.{◌≡◌, refl, sym, ap, ◌∙◌}
-use mathlib.Core.Bool.{Bool, true, false, ◌&&◌, ◌||◌}
+use mathlib.Core.Path.{◌≡◌, refl, sym, ap, ap₂, ◌∙◌}
+use mathlib.Core.Bool.{Bool, true, false, ◌&&◌}
 use mathlib.Core.List.{List, ◌++◌, reverse, append-nil}
 use Prim.Native.Nat.{ℕ, ◌*◌, ◌/◌, ◌≤◌, ◌<◌}
 use native.Mathlib.Omega.{arith}
@@ -12,16 +12,14 @@ use borrow.Author.Tests.{ltb-true}
 use Rattle.ieee754.proofs.Tests.{and_second}
 use Rattle.sphericalpoint.specs.declared.SphericalPoint.{SphericalPoint}
 use Rattle.arcstring_check.specs.declared.check.Refusal.{Refusal}
-use Rattle.arcstring_check.specs.declared.check.Checked.{Checked}
-use Rattle.arcstring_check.specs.declared.check.Checked.TheVariants.{Accepted, Refused}
-use Rattle.arcstring_check.specs.Answer.{Answer, refused, answered, pick, refusal_number}
+use Rattle.arcstring_check.specs.Answer.{Answer, refused, answered, unless_refused, pick, refusal_number}
 use Rattle.arcstring.specs.declared.inner.vertex.Vertex.{Vertex}
 use Rattle.arcstring.specs.Points.{numbered, places_of, buoys_of, points, flat}
-use Rattle.arcstring_check.specs.Check.{check_number, string_check, lent}
+use Rattle.arcstring_check.specs.Check.{string_check, rooms_check, into_rooms, lent}
 use Rattle.arcstring_walk.specs.Walk.{restarted, walk_back, restart}
-use Rattle.arcstring_check.proofs.Answers.{answer_refused, answer_accepted}
+use Rattle.arcstring_check.proofs.Answers.{stopped, went_on}
 use Rattle.arcstring_check.proofs.Checks.{stored_whole, string-stored, as_many_buoys}
-use Rattle.arcstring.proofs.Written.{Leaves, left_refused, left_written, no_rooms, rooms_enough}
+use Rattle.arcstring.proofs.Written.{Leaves, left_refused, left_written}
 use Rattle.arcstring.proofs.Numbered.{map-reverse, length-numbered}
 use Rattle.arcstring_walk.proofs.WalksWithout.{map-restarted, back_places, restart_places}
 use Rattle.arcstring.proofs.WithoutBuoys.{buoy_of, lent_buoys}
@@ -29,18 +27,15 @@ use Rattle.arcstring.proofs.Flat.{flat_append, flat-points, length-points, count
 
 -- ---- the answer, and the buffers
 
-module _ (k : Checked) (v old : List Float) (buoys old_buoys : List ℕ) (number : check_number k ≡ string_check v buoys) where
-  module _ (told : k ≡ Accepted) where
-    passed : string_check v buoys ≡ 0
-    passed = sym number ∙ ap check_number told
+module _ (v : List Float) (buoys : List ℕ) (passed : 0 ≡ string_check v buoys) where
+  -- accepted vertices are whole triples, and there are as many numbers
+  pub accepted_triples : length v ≡ 3 * (length v / 3)
+  accepted_triples = (stored_whole v (string-stored v buoys (sym passed))).triples
 
-    -- accepted vertices are whole triples, and there are as many numbers
-    pub accepted_triples : length v ≡ 3 * (length v / 3)
-    accepted_triples = (stored_whole v (string-stored v buoys passed)).triples
+  pub accepted_buoys : length buoys ≡ length v / 3
+  accepted_buoys = as_many_buoys v buoys (sym passed)
 
-    pub accepted_buoys : length buoys ≡ length v / 3
-    accepted_buoys = as_many_buoys v buoys passed
-
+module _ (v old : List Float) (buoys old_buoys : List ℕ) where
   -- vertices moved, as many as there were
   module _ (move : List Vertex → List Vertex) where
     abbrev vs : List Vertex
@@ -49,50 +44,54 @@ module _ (k : Checked) (v old : List Float) (buoys old_buoys : List ℕ) (number
     abbrev Moved : Answer (List Vertex)
     Moved = lent v buoys (length old) (length old_buoys) (answered vs)
 
-    refused_move : (e : Refusal) → k ≡ Refused e → Leaves old old_buoys Moved (refused (refusal_number e)) old old_buoys
+    refused_move : (e : Refusal) → refusal_number e ≡ string_check v buoys → Leaves old old_buoys Moved (refused (refusal_number e)) old old_buoys
     unfolding lent
-    refused_move e told = left_refused old old_buoys Moved (refusal_number e) (answer_refused k e (string_check v buoys) _ told number)
+    refused_move e number = left_refused old old_buoys Moved (refusal_number e) (stopped e (string_check v buoys) _ number)
 
-    module _ (told : k ≡ Accepted) (count : length vs ≡ length (numbered (points v) buoys)) where
+    module _ (passed : 0 ≡ string_check v buoys) (count : length vs ≡ length (numbered (points v) buoys)) where
       long : length vs ≡ length v / 3
-      long = count ∙ length-numbered (points v) buoys (accepted_buoys told ∙ sym (count_points v)) ∙ count_points v
+      long = count ∙ length-numbered (points v) buoys (accepted_buoys v buoys passed ∙ sym (count_points v)) ∙ count_points v
 
       -- the test for both rooms
-      move_short : ltb (length old) (3 * (length v / 3)) || ltb (length old_buoys) (length v / 3) ≡ true → Leaves old old_buoys Moved (refused 7) old old_buoys
-      unfolding lent
-      move_short h =
-          left_refused old old_buoys Moved 7
-          (sym (no_rooms (length old) (length old_buoys) vs (length v / 3) long h) ∙ answer_accepted k (string_check v buoys) _ told number)
+      abbrev rooms : ℕ
+      rooms = rooms_check (length v / 3) (length old) (length old_buoys)
+
+      by_rooms : (a : Answer (List Vertex)) → a ≡ unless_refused rooms (answered vs) → a ≡ Moved
+      unfolding lent into_rooms
+      by_rooms a h =
+          h ∙ ap (λ (n : ℕ). unless_refused (rooms_check n (length old) (length old_buoys)) (answered vs)) (sym long)
+          ∙ went_on (string_check v buoys) _ passed
+
+      move_short : (e : Refusal) → refusal_number e ≡ rooms → Leaves old old_buoys Moved (refused (refusal_number e)) old old_buoys
+      move_short e h = left_refused old old_buoys Moved (refusal_number e) (by_rooms _ (stopped e rooms _ h))
 
       move_written : (ps : List SphericalPoint) (bs : List ℕ) (out : List Float) (out_buoys : List ℕ)
-          → ltb (length old) (3 * (length v / 3)) || ltb (length old_buoys) (length v / 3) ≡ false → places_of vs ≡ ps → buoys_of vs ≡ bs
+          → 0 ≡ rooms → places_of vs ≡ ps → buoys_of vs ≡ bs
           → out ≡ flat ps ++ drop (3 * (length v / 3)) old → out_buoys ≡ bs ++ drop (length buoys) old_buoys
           → Leaves old old_buoys Moved (answered (length v / 3)) out out_buoys
-      unfolding lent
       move_written ps bs out out_buoys room p q w u =
-          left_written old old_buoys Moved vs (length v / 3) ps bs out out_buoys
-          (sym (rooms_enough (length old) (length old_buoys) vs (length v / 3) long room) ∙ answer_accepted k (string_check v buoys) _ told number) long p q w
-          (u ∙ ap (λ (n : ℕ). bs ++ drop n old_buoys) (accepted_buoys told))
+          left_written old old_buoys Moved vs (length v / 3) ps bs out out_buoys (by_rooms _ (went_on rooms _ room)) long p q w
+          (u ∙ ap (λ (n : ℕ). bs ++ drop n old_buoys) (accepted_buoys v buoys passed))
 
   -- backwards
-  pub back_refused : (e : Refusal) → k ≡ Refused e
+  pub back_refused : (e : Refusal) → refusal_number e ≡ string_check v buoys
       → Leaves old old_buoys (walk_back v buoys (length old) (length old_buoys)) (refused (refusal_number e)) old old_buoys
   unfolding walk_back
   back_refused = refused_move reverse
 
-  module _ (told : k ≡ Accepted) where
-    pub back_short : ltb (length old) (3 * (length v / 3)) || ltb (length old_buoys) (length v / 3) ≡ true
-        → Leaves old old_buoys (walk_back v buoys (length old) (length old_buoys)) (refused 7) old old_buoys
+  module _ (passed : 0 ≡ string_check v buoys) where
+    pub back_short : (e : Refusal) → refusal_number e ≡ rooms_check (length v / 3) (length old) (length old_buoys)
+        → Leaves old old_buoys (walk_back v buoys (length old) (length old_buoys)) (refused (refusal_number e)) old old_buoys
     unfolding walk_back
-    back_short = move_short reverse told (length-reverse (numbered (points v) buoys))
+    back_short = move_short reverse passed (length-reverse (numbered (points v) buoys))
 
-    pub back_written : (out : List Float) (out_buoys : List ℕ) → ltb (length old) (3 * (length v / 3)) || ltb (length old_buoys) (length v / 3) ≡ false
+    pub back_written : (out : List Float) (out_buoys : List ℕ) → 0 ≡ rooms_check (length v / 3) (length old) (length old_buoys)
         → out ≡ flat (reverse (points v)) ++ drop (3 * (length v / 3)) old → out_buoys ≡ reverse buoys ++ drop (length buoys) old_buoys
         → Leaves old old_buoys (walk_back v buoys (length old) (length old_buoys)) (answered (length v / 3)) out out_buoys
     unfolding walk_back
     back_written out out_buoys room w u =
-        move_written reverse told (length-reverse (numbered (points v) buoys)) (reverse (points v)) (reverse buoys) out out_buoys room
-        (back_places v buoys (passed told)) (map-reverse buoy_of (numbered (points v) buoys) ∙ ap reverse (lent_buoys v buoys (passed told))) w u
+        move_written reverse passed (length-reverse (numbered (points v) buoys)) (reverse (points v)) (reverse buoys) out out_buoys room
+        (back_places v buoys (sym passed)) (map-reverse buoy_of (numbered (points v) buoys) ∙ ap reverse (lent_buoys v buoys (sym passed))) w u
 
 -- ---- restarted
 
@@ -142,34 +141,35 @@ restart_floats v n closed at k whole h =
     ∙ ap (λ (m : ℕ). flat (pick (closed && ltb at m) (drop at ps ++ take at ps) ps)) (sym (length-points n v whole))
 
 -- restarted, from the vertex `start` on
-module _ (k : Checked) (v old : List Float) (buoys old_buoys : List ℕ) (number : check_number k ≡ string_check v buoys) (closed : Bool) (at : ℕ) where
+module _ (v old : List Float) (buoys old_buoys : List ℕ) (closed : Bool) (at : ℕ) where
   abbrev restarts : List Vertex → List Vertex
   restarts xs = restarted xs closed at
 
-  pub restart_refused : (e : Refusal) → k ≡ Refused e
+  pub restart_refused : (e : Refusal) → refusal_number e ≡ string_check v buoys
       → Leaves old old_buoys (restart v buoys closed at (length old) (length old_buoys)) (refused (refusal_number e)) old old_buoys
   unfolding restart
-  restart_refused = refused_move k v old buoys old_buoys number restarts
+  restart_refused = refused_move v old buoys old_buoys restarts
 
-  module _ (told : k ≡ Accepted) where
-    pub restart_short : ltb (length old) (3 * (length v / 3)) || ltb (length old_buoys) (length v / 3) ≡ true
-        → Leaves old old_buoys (restart v buoys closed at (length old) (length old_buoys)) (refused 7) old old_buoys
+  module _ (passed : 0 ≡ string_check v buoys) where
+    pub restart_short : (e : Refusal) → refusal_number e ≡ rooms_check (length v / 3) (length old) (length old_buoys)
+        → Leaves old old_buoys (restart v buoys closed at (length old) (length old_buoys)) (refused (refusal_number e)) old old_buoys
     unfolding restart
-    restart_short = move_short k v old buoys old_buoys number restarts told (length-restarted (numbered (points v) buoys) closed at)
+    restart_short = move_short v old buoys old_buoys restarts passed (length-restarted (numbered (points v) buoys) closed at)
 
     pub restart_written : (start : ℕ) (out : List Float) (out_buoys : List ℕ) → start ≡ pick (closed && ltb at (length v / 3)) at 0
-        → ltb (length old) (3 * (length v / 3)) || ltb (length old_buoys) (length v / 3) ≡ false
-        → out ≡ (drop (3 * start) v ++ take (3 * start) v) ++ drop (3 * (length v / 3)) old
+        → 0 ≡ rooms_check (length v / 3) (length old) (length old_buoys)
+        → out ≡ (drop (3 * start) v ++ take (3 * start) v) ++ drop (length v) old
         → out_buoys ≡ (drop start buoys ++ take start buoys) ++ drop (length buoys) old_buoys
         → Leaves old old_buoys (restart v buoys closed at (length old) (length old_buoys)) (answered (length v / 3)) out out_buoys
     unfolding restart
     restart_written start out out_buoys begins room w u =
-        let h = passed k v old buoys old_buoys number told in
+        let h = sym passed in
         let n = length v / 3 in
-        move_written k v old buoys old_buoys number restarts told (length-restarted (numbered (points v) buoys) closed at)
+        move_written v old buoys old_buoys restarts passed (length-restarted (numbered (points v) buoys) closed at)
         (restarted (points v) closed at) (restarted buoys closed at) out out_buoys
         room (restart_places v buoys h closed at)
         (map-restarted buoy_of (numbered (points v) buoys) closed at ∙ ap (λ (bs : List ℕ). restarted bs closed at) (lent_buoys v buoys h))
-        (w ∙ ap (λ (l : List Float). l ++ drop (3 * n) old) (restart_floats v n closed at start (accepted_triples k v old buoys old_buoys number told) begins))
+        (w ∙ ap₂ (λ (l : List Float) (j : ℕ). l ++ drop j old) (restart_floats v n closed at start (accepted_triples v buoys passed) begins)
+        (accepted_triples v buoys passed))
         (u ∙ ap (λ (bs : List ℕ). bs ++ drop (length buoys) old_buoys)
-        (restart_runs buoys n closed at start (accepted_buoys k v old buoys old_buoys number told) begins))
+        (restart_runs buoys n closed at start (accepted_buoys v buoys passed) begins))

@@ -1,45 +1,45 @@
 // A string walked backwards, restarted at a vertex, and the run of vertices between two positions.
 ghost use Rattle.std.specs.Prelude.{◌≡◌, ◌&&◌, ◌++◌, reverse, ◌*◌, ◌≤◌, ltb, length, take, drop};
-ghost use Rattle.arcstring_check.specs.Answer.{leaves, pick};
+ghost use Rattle.arcstring_check.specs.Answer.{leaves, pick, answer_of};
 ghost use Rattle.arcstring.specs.Points.{points, flat};
 ghost use Rattle.arcstring_walk.specs.Walk.{walk_back, run_of};
-ghost use Rattle.arcstring.specs.Written.{written_answer, written_result, written_floats, without_buoys, written_buoys};
+ghost use Rattle.arcstring.specs.Written.{written_result, written_floats, without_buoys, written_buoys};
 ghost use Rattle.arcstring_walk.specs.Walk as Walk;
 
 use arcstring::inner::vertex;
-use arcstring_check::check::{Checked, Refusal, Written};
+use arcstring::inner::vertex::Vertices;
+use arcstring_check::check::Refusal;
 use arcstring_check::inner::checks;
 
-// The vertices of `v`, last to first.
-fn reverse_vertices(v: &[f64], n: usize, out: &mut [f64])
-    requires { (length v.now ≡ 3 * n) × (3 * n ≤ length out.old) }
-    ensures { out.new ≡ flat (reverse (points v.now)) ++ drop (3 * n) out.old }
+// The vertices of a string, last to first.
+fn reverse_vertices(string: Vertices, out: &mut [f64])
+    requires { 3 * string.n ≤ length out.old }
+    ensures { out.new ≡ flat (reverse (points string.entry.v.now)) ++ drop (3 * string.entry.n) out.old }
 {
-    let mut i = 0;
-    while i < n {
-        vertex::put_vertex(out, i, vertex::vertex_at(v, n - 1 - i));
-        i += 1;
+    for i in 0..string.n {
+        vertex::put_vertex(out, i, string.at(string.n - 1 - i));
     }
 }
 
-// The numbers, last to first.
+// The numbers, last to first. (The floats of vertices are not simply reversed: each vertex keeps its three in their order.)
 fn reverse_buoys(buoys: &[u32], out: &mut [u32])
     requires { length buoys.now ≤ length out.old }
     ensures { out.new ≡ reverse buoys.now ++ drop (length buoys.now) out.old }
 {
     let n = buoys.len();
-    let mut i = 0;
-    while i < n {
-        let j = n - 1 - i;
-        out[i] = buoys[j];
-        i += 1;
-    }
+    out[..n].copy_from_slice(buoys);
+    out[..n].reverse();
 }
 
 // The string backwards, last vertex first, each number with its vertex. Bits, flag and near list stay.
 // Refuses by 1, 10, 3 and 4 of the vertices, and by 7.
-pub fn walk_back(v: &[f64], buoys: &[u32], out: &mut [f64], out_buoys: &mut [u32]) -> Written
-    ensures result_value { written_answer result ≡ written_result
+pub fn walk_back(
+    v: &[f64],
+    buoys: &[u32],
+    out: &mut [f64],
+    out_buoys: &mut [u32],
+) -> Result<usize, Refusal>
+    ensures result_value { answer_of result ≡ written_result
         (walk_back v.now buoys.now (length out.old) (length out_buoys.old)) }
     ensures out_after { out.new ≡ leaves
         (written_floats (without_buoys (walk_back v.now buoys.now (length out.old) (length out_buoys.old))))
@@ -48,36 +48,22 @@ pub fn walk_back(v: &[f64], buoys: &[u32], out: &mut [f64], out_buoys: &mut [u32
         (written_buoys (walk_back v.now buoys.now (length out.old) (length out_buoys.old)))
         out_buoys.old }
 {
-    let checked = checks::check_string(v, buoys);
-    if let Checked::Refused(e) = checked {
-        return Written::Refused(e);
-    }
+    checks::check_string(v, buoys)?;
     let n = v.len() / 3;
-    if (out.len() < 3 * n) | (out_buoys.len() < n) {
-        return Written::Refused(Refusal::NoRoom);
-    }
-    reverse_vertices(v, n, out);
+    checks::check_rooms(n, out.len(), out_buoys.len())?;
+    reverse_vertices(Vertices { v, n }, out);
     reverse_buoys(buoys, out_buoys);
-    Written::Vertices(n)
+    Ok(n)
 }
 
-// The vertices from position k on, and then those before it.
-fn rotate_vertices(v: &[f64], n: usize, k: usize, out: &mut [f64])
-    requires { (length v.now ≡ 3 * n) × (k ≤ n) × (3 * n ≤ length out.old) }
-    ensures { out.new ≡ (drop (3 * k) v.now ++ take (3 * k) v.now) ++ drop (3 * n) out.old }
+// The items from position k on, and then those before it.
+fn rotate<T: Copy>(list: &[T], k: usize, out: &mut [T])
+    requires { (k ≤ length list.now) × (length list.now ≤ length out.old) }
+    ensures { out.new ≡ (drop k list.now ++ take k list.now) ++ drop (length list.now) out.old }
 {
-    vertex::copy_run(v, k, n - k, out, 0);
-    vertex::copy_run(v, 0, k, out, n - k);
-}
-
-// The numbers from position k on, and then those before it.
-fn rotate_buoys(buoys: &[u32], k: usize, out: &mut [u32])
-    requires { (k ≤ length buoys.now) × (length buoys.now ≤ length out.old) }
-    ensures { out.new ≡ (drop k buoys.now ++ take k buoys.now) ++ drop (length buoys.now) out.old }
-{
-    let n = buoys.len();
-    vertex::copy_buoys(buoys, k, n - k, out, 0);
-    vertex::copy_buoys(buoys, 0, k, out, n - k);
+    let n = list.len();
+    vertex::copy_items(list, k, n - k, out, 0);
+    vertex::copy_items(list, 0, k, out, n - k);
 }
 
 // Where a restart begins: at the named vertex of a closed string, else at vertex 0.
@@ -96,8 +82,8 @@ pub fn restart(
     at: usize,
     out: &mut [f64],
     out_buoys: &mut [u32],
-) -> Written
-    ensures result_value { written_answer result ≡ written_result
+) -> Result<usize, Refusal>
+    ensures result_value { answer_of result ≡ written_result
         (Walk.restart v.now buoys.now closed at (length out.old) (length out_buoys.old)) }
     ensures out_after { out.new ≡ leaves
         (written_floats (without_buoys (Walk.restart v.now buoys.now closed at (length out.old)
@@ -106,18 +92,13 @@ pub fn restart(
         (written_buoys (Walk.restart v.now buoys.now closed at (length out.old) (length out_buoys.old)))
         out_buoys.old }
 {
-    let checked = checks::check_string(v, buoys);
-    if let Checked::Refused(e) = checked {
-        return Written::Refused(e);
-    }
+    checks::check_string(v, buoys)?;
     let n = v.len() / 3;
-    if (out.len() < 3 * n) | (out_buoys.len() < n) {
-        return Written::Refused(Refusal::NoRoom);
-    }
+    checks::check_rooms(n, out.len(), out_buoys.len())?;
     let k = restart_vertex(n, closed, at);
-    rotate_vertices(v, n, k, out);
-    rotate_buoys(buoys, k, out_buoys);
-    Written::Vertices(n)
+    rotate(v, 3 * k, out);
+    rotate(buoys, k, out_buoys);
+    Ok(n)
 }
 
 // The run of vertices from position `from` up to, not including, `to`, as that part of the caller's list. Never

@@ -7,13 +7,7 @@ ghost use Rattle.ieee754.specs.Value.{value};
 pub fn size(x: f64) -> f64
     ensures { result ≡ abs x }
 {
-    if x < 0.0 {
-        return -x;
-    }
-    if x == 0.0 {
-        return 0.0;
-    }
-    x
+    x.abs()
 }
 
 // The size by value: the larger of x and -x, so one comparison where `size` has two. A zero may keep its sign, which changes no sum's value.

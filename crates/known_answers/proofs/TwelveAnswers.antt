@@ -6,12 +6,12 @@ use mathlib.Core.Option.{none, some}
 use lib.Ieee.{add, sub, mul, div, neg, lt, eq, le, round}
 use Rattle.ieee754.specs.Size.{abs}
 use Rattle.square_root.specs.Sqrt.{sqrt_of}
-use Rattle.sphericalpoint.specs.Vector.{equality_tolerance, coplanar_tolerance, xyz_sub, xyz_mul, xyz_div, xyz_neg, xyz_abs, xyz_sum, xyz_dot, xyz_cross, xyz_length}
-use Rattle.sphericalpoint.specs.Vector.{xyz_eq, normalized}
+use Rattle.sphericalpoint.specs.Vector.{equality_tolerance, coplanar_tolerance, xyz_sub, xyz_mul, xyz_div, xyz_neg, xyz_abs, xyz_sum, xyz_dot}
+use Rattle.sphericalpoint.specs.Vector.{xyz_cross, xyz_length, xyz_eq, normalized}
 use Rattle.sphericalpoint.specs.Point.{normalized_unless_short}
 use Rattle.sphericalpoint_coplanar.specs.Coplanar.{between_in_plane, xyzs_coplanar}
-use Rattle.arcstring_check.specs.Check.{in_range, all_in_range, list_check, buoys_check, string_check, building_check, point_check, room_check, rooms_check, into_rooms}
-use Rattle.arcstring_check.specs.Check.{lent}
+use Rattle.arcstring_check.specs.Check.{in_range, all_in_range, list_check, buoys_check, string_check, building_check, point_check}
+use Rattle.arcstring_check.specs.Check.{room_check, rooms_check, into_rooms, lent}
 use Rattle.arcstring_point.specs.Point.{coplanar_points}
 use Rattle.arcstring_build.specs.Build.{ends_meet, built_vertices, built_string, built_numbered, build_into, build}
 use Rattle.arcstring_check.specs.Answer.{refused, answered}
@@ -20,7 +20,8 @@ use Rattle.arcstring_sides.specs.Sides.{grazes, is_above, is_below, sign_negativ
 use Rattle.arcstring_pair.specs.Pair.{normal, meeting, side_from, side_to, side_values}
 use Rattle.arcstring_pair.specs.Pair.{at_end, kept_or_dropped, grazing_outcome, end_or_clean, class_at, pair_of, arcs_crossing}
 use Rattle.arcstring.specs.Leg.{leg_check}
-use Rattle.arcstring_rounds.specs.Rounds.{third_position, unnecessary, unnecessary_from, unnecessary_positions, remove_at, remove_all, is_simple, rounds, simplified}
+use Rattle.arcstring_rounds.specs.Rounds.{third_position, unnecessary, unnecessary_from, unnecessary_positions, remove_at, remove_all}
+use Rattle.arcstring_rounds.specs.Rounds.{is_simple, rounds, simplified}
 use Rattle.arcstring_simplify.specs.Simplify.{simplify}
 use Rattle.known_answers.specs.Twelve.{crossing, coplanar, building, simplifying, root, nought, unit, half, point_x, point_y, buoyed, crossings, coplanars}
 use Rattle.known_answers.specs.Twelve.{buildings, simplifyings, roots, twelve, TwelveKnownAnswers}
@@ -31,14 +32,14 @@ known_crossings : crossings
     ∷ crossing (answered (record { class = 3; point = some (point half nought nought); kept = true }))
     ∷ crossing (answered (record { class = 3; point = some (point nought nought nought); kept = true }))
     ∷ []
-unfolding arcs_crossing leg_check point_check in_range pair_of class_at end_or_clean grazing_outcome kept_or_dropped at_end every_side some_side sign_positive sign_negative
-    is_below is_above grazes side_values side_to side_from meeting normal equality_tolerance xyz_sub xyz_mul xyz_neg xyz_abs xyz_sum xyz_dot xyz_cross xyz_eq abs add sub mul
-    neg lt eq le round
+unfolding arcs_crossing leg_check point_check in_range pair_of class_at end_or_clean grazing_outcome kept_or_dropped at_end every_side some_side sign_positive
+    sign_negative is_below is_above grazes side_values side_to side_from meeting normal equality_tolerance xyz_sub xyz_mul xyz_neg xyz_abs xyz_sum xyz_dot
+    xyz_cross xyz_eq abs add sub mul neg lt eq le round
 known_crossings = refl
 
 known_coplanars : coplanars ≡ coplanar (answered true) ∷ coplanar (answered false) ∷ coplanar (answered false) ∷ coplanar (answered false) ∷ []
-unfolding coplanar_points point_check in_range xyzs_coplanar between_in_plane equality_tolerance coplanar_tolerance xyz_sub xyz_mul xyz_abs xyz_sum xyz_dot xyz_cross
-    xyz_length xyz_eq sqrt_of abs add sub mul div neg lt eq le round
+unfolding coplanar_points point_check in_range xyzs_coplanar between_in_plane equality_tolerance coplanar_tolerance xyz_sub xyz_mul xyz_abs xyz_sum xyz_dot
+    xyz_cross xyz_length xyz_eq sqrt_of abs add sub mul div neg lt eq le round
 known_coplanars = refl
 
 known_buildings : buildings ≡ building (answered (record { vertices = buoyed point_x 7 ∷ []; near = point_x ∷ []; closed = true })) ∷ building (refused 2) ∷ []

@@ -1,7 +1,7 @@
 // What the counting program prints for inputs other than its own stored one, each line of it after the other: the gate compares.
 #![tactic(auto)]
 
-ghost use Rattle.std.specs.Prelude.{◌≡◌, ◌≤◌, length};
+ghost use Rattle.std.specs.Prelude.{◌≤◌, length};
 
 use std::io::Print;
 use textform::inner::print;
@@ -14,27 +14,21 @@ fn show(out: &impl Print, input: &[u8]) {
     let _ = out.write_all(&text[..n]);
 }
 
-// Zeros, for the longest input. The `ensures` gives only the length, which lending the array as a slice needs.
-fn input_buffer() -> [u8; 65536]
-    ensures { 65536 ≡ length result }
-{
-    [0; 65536]
-}
+// Room for the longest input.
+const INPUT_ROOM: usize = 65536;
 
 // The output of an input of n equal rows of A and the rows after them.
 fn show_long(out: &impl Print, n: usize, rest: &[u8])
     requires { (n ≤ 1100) × (length rest.now ≤ 200) }
 {
-    let mut input = input_buffer();
+    let mut input = [0; INPUT_ROOM];
     let mut at = print::put_text(&mut input, 0, b"string x y z\n");
-    let mut k = 0;
-    while k < n {
+    for _row in 0..n {
         at = print::put_text(
             &mut input,
             at,
             b"A 3FF0000000000000 0000000000000000 0000000000000000\n",
         );
-        k += 1;
     }
     at = print::put_text(&mut input, at, rest);
     show(out, &input[..at]);

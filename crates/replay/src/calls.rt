@@ -1,5 +1,5 @@
 // Which function runs a call.
-use crate::read::Request;
+use crate::read::{Given, Request};
 use crate::{crossings, strings, verdicts, vertices};
 use std::io::Print;
 
@@ -11,28 +11,18 @@ use std::io::Print;
 //     19 insert_vertices                 20 split_leg            21 split             22 eq            23 equals
 //     24 crosses       25 overlaps       26 within               27 contains          28 mark_on_leg   29 mark_on_string
 //     30 cut_at_marks
-pub(crate) fn answer(
-    stdout: &impl Print,
-    q: Request,
-    a: &[f64],
-    a_near: &[f64],
-    b: &[f64],
-    b_near: &[f64],
-    a_buoys: &[u32],
-    b_buoys: &[u32],
-) {
-    let call = q.call;
-    match call {
+pub(crate) fn answer(stdout: &impl Print, q: Request, a: Given, b: Given) {
+    match q.call {
         2 => vertices::point(stdout, a),
         7 => vertices::run(stdout, q, a),
         8 => crossings::pair(stdout, a, b),
         9 | 10 | 12 => crossings::listing(stdout, q, a, b),
         11 => crossings::count(stdout, q, a, b),
         15 | 16 | 20 => vertices::written(stdout, q, a, b),
-        3..=6 | 18 | 19 => strings::written(stdout, q, a, a_buoys, b, b_buoys),
-        21 => strings::split(stdout, q, a, a_buoys, b, b_buoys),
-        30 => strings::cut_at_marks(stdout, q, a, a_buoys, b, b_buoys),
-        0 | 1 | 13 | 14 | 17 | 28 | 29 => verdicts::on_string(stdout, q, a, b, b_near),
-        _ => verdicts::relation(stdout, q, a, a_near, b, b_near),
+        3..=6 | 18 | 19 => strings::written(stdout, q, a, b),
+        21 => strings::split(stdout, q, a, b),
+        30 => strings::cut_at_marks(stdout, q, a, b),
+        0 | 1 | 13 | 14 | 17 | 28 | 29 => verdicts::on_string(stdout, q, a, b),
+        _ => verdicts::relation(stdout, q, a, b),
     }
 }

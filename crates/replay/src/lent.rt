@@ -1,4 +1,4 @@
-// What is lent to a call: what stands in each place before it, and a list's floats one by one.
+// What is lent to a call: what stands in each place before it, and the first floats of a list.
 // What every place holds before a call, so that what is not written shows.
 pub(crate) const FLOAT: f64 = -7.25;
 
@@ -10,22 +10,11 @@ pub(crate) const NUMBER: usize = 0x5A5A_5A5A;
 
 pub(crate) const COUNT: u64 = 0x5A5A_5A5A;
 
-// A float of a list; a NaN past its end.
-pub(crate) fn at(list: &[f64], i: usize) -> f64 {
-    if i < list.len() {
-        return list[i];
+// The first floats of a list: a point, a leg; a NaN for each past its end.
+pub(crate) fn first<const N: usize>(list: &[f64]) -> [f64; N] {
+    let mut floats = [f64::NAN; N];
+    for (place, x) in floats.iter_mut().zip(list) {
+        *place = *x;
     }
-    0.0 / 0.0
-}
-
-// The first six floats of a list: a leg.
-pub(crate) fn six(list: &[f64]) -> [f64; 6] {
-    [
-        at(list, 0),
-        at(list, 1),
-        at(list, 2),
-        at(list, 3),
-        at(list, 4),
-        at(list, 5),
-    ]
+    floats
 }

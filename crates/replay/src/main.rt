@@ -15,7 +15,7 @@
 //
 //     read        a word, a list, the words before the lists
 //     print       words, floats, buoys, bytes and numbers
-//     lent        what stands in the places before a call, and a list's floats one by one
+//     lent        what stands in the places before a call, and the first floats of a list
 //     calls       which function runs which call; these functions are in:
 //     verdicts    the calls that answer yes or no
 //     strings     the calls that write a string, or its pieces, with buoys
@@ -32,106 +32,48 @@ mod strings;
 mod verdicts;
 mod vertices;
 
-use read::{Asked, Request};
+use read::Given;
 use std::io::{Print, Read};
 
-// The lists of buoys of a request read, and its answer printed; false where the lists are not there whole.
-fn answer_buoys(
-    stdin: &mut impl Read,
-    stdout: &impl Print,
-    label: &[u8; 48],
-    q: Request,
-    a: &[f64],
-    a_near: &[f64],
-    b: &[f64],
-    b_near: &[f64],
-) -> bool {
-    let mut a_buoys = [0u32; 3200];
-    let mut b_buoys = [0u32; 3200];
-    let first = read::read_buoy_list(stdin, &mut a_buoys);
-    if !first.whole {
-        return false;
-    }
-    let second = read::read_buoy_list(stdin, &mut b_buoys);
-    if !second.whole {
-        return false;
-    }
-    let a_end = first.length;
-    let b_end = second.length;
-    let _ = stdout.write_all(label);
-    calls::answer(
-        stdout,
-        q,
-        a,
-        a_near,
-        b,
-        b_near,
-        &a_buoys[..a_end],
-        &b_buoys[..b_end],
-    );
-    stdout.write_all(b"\n").is_ok()
-}
-
-// The four lists of floats of a request read, and what follows them; false where the lists are not there whole.
-fn answer_lists(stdin: &mut impl Read, stdout: &impl Print, label: &[u8; 48], q: Request) -> bool {
-    let mut a = [0.0; 3200];
-    let mut a_near = [0.0; 3200];
-    let mut b = [0.0; 3200];
-    let mut b_near = [0.0; 3200];
-    let first = read::read_list(stdin, &mut a);
-    if !first.whole {
-        return false;
-    }
-    let first_near = read::read_list(stdin, &mut a_near);
-    if !first_near.whole {
-        return false;
-    }
-    let second = read::read_list(stdin, &mut b);
-    if !second.whole {
-        return false;
-    }
-    let second_near = read::read_list(stdin, &mut b_near);
-    if !second_near.whole {
-        return false;
-    }
-    let a_end = first.length;
-    let a_near_end = first_near.length;
-    let b_end = second.length;
-    let b_near_end = second_near.length;
-    answer_buoys(
-        stdin,
-        stdout,
-        label,
-        q,
-        &a[..a_end],
-        &a_near[..a_near_end],
-        &b[..b_end],
-        &b_near[..b_near_end],
-    )
-}
-
-// One request answered; false where there is none, or not a whole one.
-fn answer_one(stdin: &mut impl Read, stdout: &impl Print) -> bool {
-    let mut label = [0u8; 48];
-    if stdin.read_exact(&mut label).is_err() {
-        return false;
-    }
-    let asked = read::read_request(stdin);
-    let Asked::Request(q) = asked else {
-        return false;
+// One request read and answered; None where there is none, or not a whole one.
+fn answer_one(stdin: &mut impl Read, stdout: &impl Print) -> Option<()> {
+    let mut label = [0; 48];
+    stdin.read_exact(&mut label).ok()?;
+    let q = read::read_request(stdin)?;
+    let mut v_a = [0.0; 3200];
+    let mut near_a = [0.0; 3200];
+    let mut v_b = [0.0; 3200];
+    let mut near_b = [0.0; 3200];
+    let mut buoys_a = [0; 3200];
+    let mut buoys_b = [0; 3200];
+    let v_a = read::read_list(stdin, &mut v_a)?;
+    let near_a = read::read_list(stdin, &mut near_a)?;
+    let v_b = read::read_list(stdin, &mut v_b)?;
+    let near_b = read::read_list(stdin, &mut near_b)?;
+    let a = Given {
+        v: v_a,
+        near: near_a,
+        closed: q.first_flag,
+        buoys: read::read_list(stdin, &mut buoys_a)?,
     };
-    answer_lists(stdin, stdout, &label, q)
+    let b = Given {
+        v: v_b,
+        near: near_b,
+        closed: q.second_flag,
+        buoys: read::read_list(stdin, &mut buoys_b)?,
+    };
+    let _ = stdout.write_all(&label);
+    calls::answer(stdout, q, a, b);
+    stdout.write_all(b"\n").ok()
 }
 
-// A proved loop has to end, and nothing says that the input does: so the loop counts its turns down, from a number that no run
-// uses up.
+// A proved loop has to end, and nothing says that the input does: so the loop counts its turns, to a number that no run
+// reaches.
 fn main(rt: HostRuntime) {
     let mut stdin = rt.stdin();
-    let mut turns = u64::MAX;
-    while turns > 0 {
-        if !answer_one(&mut stdin, &rt.stdout()) {
+    for _ in 0..u64::MAX {
+        if answer_one(&mut stdin, &rt.stdout()).is_none() {
             return;
         }
-        turns -= 1;
     }
 }

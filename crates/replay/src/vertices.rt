@@ -1,65 +1,40 @@
 // A point, the calls that write floats and no string, and a run of vertices. What is printed: the number returned, the floats lent, and
 // then the numbers.
-use crate::lent::{FLOAT, NUMBER, at, six};
+use crate::lent::{FLOAT, NUMBER, first};
 use crate::print;
-use crate::read::Request;
+use crate::read::{Given, Request};
+use arcstring_calls::{measure, split_leg, walk};
 use std::io::Print;
 
-fn print_written(stdout: &impl Print, n: u32, out: &[f64], count: usize) {
-    print::print_returned(stdout, n);
-    print::print_floats(stdout, out);
-    print::print_number(stdout, count);
-}
-
-pub(crate) fn point(stdout: &impl Print, a: &[f64]) {
+pub(crate) fn point(stdout: &impl Print, a: Given) {
+    let [x, y, z] = first::<3>(a.v);
     let mut out = [FLOAT; 3];
-    let n = arcstring_calls::point::arcstring_point(at(a, 0), at(a, 1), at(a, 2), &mut out);
-    print::print_returned(stdout, n);
-    print::print_point(stdout, &out);
+    print::word(
+        stdout,
+        arcstring_calls::point::arcstring_point(x, y, z, &mut out),
+    );
+    print::floats(stdout, &out);
 }
 
 // A run returns nothing: 0 is printed for it.
-pub(crate) fn run(stdout: &impl Print, q: Request, a: &[f64]) {
+pub(crate) fn run(stdout: &impl Print, q: Request, a: Given) {
     let mut start = NUMBER;
     let mut len = NUMBER;
-    arcstring_calls::walk::arcstring_run(a, q.first, q.second, &mut start, &mut len);
-    print::print_returned(stdout, 0);
-    print::print_number(stdout, start);
-    print::print_number(stdout, len);
-}
-
-fn turn_orientations(stdout: &impl Print, q: Request, a: &[f64], out: &mut [f64]) {
-    let mut count = NUMBER;
-    let n = arcstring_calls::measure::arcstring_turn_orientations(a, q.first_flag, out, &mut count);
-    print_written(stdout, n, out, count);
-}
-
-fn midpoints(stdout: &impl Print, q: Request, a: &[f64], out: &mut [f64]) {
-    let mut count = NUMBER;
-    let n = arcstring_calls::measure::arcstring_midpoints(a, q.first_flag, out, &mut count);
-    print_written(stdout, n, out, count);
-}
-
-fn split_leg(stdout: &impl Print, a: &[f64], b: &[f64], out: &mut [f64]) {
-    let leg = six(a);
-    let mut pieces = NUMBER;
-    let n = arcstring_calls::split_leg::arcstring_split_leg(&leg, b, out, &mut pieces);
-    print_written(stdout, n, out, pieces);
+    walk::arcstring_run(a.v, q.first, q.second, &mut start, &mut len);
+    print::words(stdout, &[0, start, len]);
 }
 
 // The calls that are lent floats: 15, 16 and 20.
-fn write(stdout: &impl Print, q: Request, a: &[f64], b: &[f64], out: &mut [f64]) {
-    let call = q.call;
-    match call {
-        15 => return turn_orientations(stdout, q, a, out),
-        16 => return midpoints(stdout, q, a, out),
-        _ => return split_leg(stdout, a, b, out),
-    }
-}
-
-// The same, with the floats.
-pub(crate) fn written(stdout: &impl Print, q: Request, a: &[f64], b: &[f64]) {
+pub(crate) fn written(stdout: &impl Print, q: Request, a: Given, b: Given) {
     let mut floats = [FLOAT; 256];
-    let room = q.floats as usize;
-    write(stdout, q, a, b, &mut floats[..room]);
+    let out = &mut floats[..usize::from(q.floats)];
+    let mut count = NUMBER;
+    let n = match q.call {
+        15 => measure::arcstring_turn_orientations(a.v, a.closed, out, &mut count),
+        16 => measure::arcstring_midpoints(a.v, a.closed, out, &mut count),
+        _ => split_leg::arcstring_split_leg(&first(a.v), b.v, out, &mut count),
+    };
+    print::word(stdout, n);
+    print::floats(stdout, out);
+    print::word(stdout, count);
 }

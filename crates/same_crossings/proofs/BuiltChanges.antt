@@ -161,7 +161,8 @@ module _ (margin : Float) (ps : List SphericalPoint) (same : ClosesOnItself ps) 
   pairs_reversed : SamePairs (pairs_between margin (legs_of_built (reverse ps)) ms) (pairs_between margin (legs_of_built ps) ms)
   pairs_reversed = go (built_string ps).closed refl
     where
-      go : (b : Bool) → (built_string ps).closed ≡ b → SamePairs (pairs_between margin (legs_of_built (reverse ps)) ms) (pairs_between margin (legs_of_built ps) ms)
+      go : (b : Bool) → (built_string ps).closed ≡ b
+          → SamePairs (pairs_between margin (legs_of_built (reverse ps)) ms) (pairs_between margin (legs_of_built ps) ms)
       go false e =
           let r = builds_in_reverse ps in
           legs_turned margin (legs_of_built (reverse ps)) (legs_of_built ps) ms

@@ -111,8 +111,8 @@ module _ (a : List Float) (a_closed : Bool) (b : List Float) (b_closed : Bool) (
   unfolding crossings
   crossings_is p m l h = listed_is (stored_check a) (stored_check b) (margin_check margin) (listing_of (visited margin a a_closed b b_closed)) l p m h
 
-pub leg_crossings_is : (arc : Leg) (v : List Float) (closed : Bool) (margin : Float) (p m : ℕ) (l : Listing) → leg_crossings arc v closed margin p m ≡ answered l
-    → listing_of (leg_pairs margin arc v closed) ≡ l
+pub leg_crossings_is : (arc : Leg) (v : List Float) (closed : Bool) (margin : Float) (p m : ℕ) (l : Listing)
+    → leg_crossings arc v closed margin p m ≡ answered l → listing_of (leg_pairs margin arc v closed) ≡ l
 unfolding leg_crossings
 leg_crossings_is arc v closed margin p m l h =
     (listed_is (leg_check arc) (stored_check v) (margin_check margin) (listing_of (leg_pairs margin arc v closed)) l p m h).3

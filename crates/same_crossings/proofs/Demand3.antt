@@ -180,7 +180,8 @@ module _ (margin : Float) where
   same_own s u d l k e g =
       rw (← e, ← g, clean_normalized (kept_marks (own_pairs s)), clean_normalized (kept_marks (own_pairs u))) (
         sym (counts_same (own_pairs u) (own_pairs s) d),
-        normalized_same (clean_points (kept_marks (own_pairs s))) (clean_points (kept_marks (own_pairs u))) (Permᴰ.symm (clean_same (own_pairs u) (own_pairs s) d)),
+        normalized_same (clean_points (kept_marks (own_pairs s))) (clean_points (kept_marks (own_pairs u)))
+            (Permᴰ.symm (clean_same (own_pairs u) (own_pairs s) d)),
       )
 
   own_stay : (s : Held) → Accepted s → (rooms : List (ℕ × ℕ)) → SameSelfCrossings margin s (walks_back rooms s)

@@ -40,4 +40,5 @@ runs_add_up margin ps x qs ls =
     let ks = legs (ps ++ (x ∷ [])) false in
     let ms = legs (x ∷ qs) false in
     ap (λ (all : List Leg). counts_of (pairs_between margin all ls)) (legs_runs ps x qs)
-    ∙ simp (total_runs margin one_clean ks ms ls, total_runs margin one_end ks ms ls, total_runs margin one_grazing ks ms ls, total_runs margin one_apart ks ms ls)
+    ∙ simp
+    (total_runs margin one_clean ks ms ls, total_runs margin one_end ks ms ls, total_runs margin one_grazing ks ms ls, total_runs margin one_apart ks ms ls)

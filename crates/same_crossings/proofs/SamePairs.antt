@@ -133,7 +133,8 @@ module _ (margin : Float) where
   unfolding pairs_between
   between_values [] ms = refl
   between_values (a ∷ ls) ms =
-      map-append pair_value (map (pair_of margin a) ms) (pairs_between margin ls ms) ∙ ap₂ ◌++◌ (map-map pair_value (pair_of margin a) ms) (between_values ls ms)
+      map-append pair_value (map (pair_of margin a) ms) (pairs_between margin ls ms)
+      ∙ ap₂ ◌++◌ (map-map pair_value (pair_of margin a) ms) (between_values ls ms)
 
   module _ (ls ks ms : List Leg) where
     by_values : (ns : List Leg) → Permᴰ (grid class_and_point ls ms) (grid class_and_point ks ns)

@@ -1,7 +1,7 @@
 // What the season report prints for inputs other than its own stored one, one after the other: the gate compares.
 #![tactic(auto)]
 
-ghost use Rattle.std.specs.Prelude.{◌≡◌, ◌+◌, ◌≤◌, length};
+ghost use Rattle.std.specs.Prelude.{◌+◌, ◌≤◌, length};
 
 use std::io::Print;
 use textform::inner::print;
@@ -9,28 +9,22 @@ use textform_season::inner::report;
 
 // One input's output.
 fn show(out: &impl Print, input: &[u8]) {
-    let mut text = report::report_buffer();
+    let mut text = [0; report::REPORT_ROOM];
     let n = report::report_text(input, &mut text);
     let _ = out.write_all(&text[..n]);
 }
 
-// Zeros, for the longest input. The `ensures` gives only the length, which lending the array as a slice needs.
-fn input_buffer() -> [u8; 262144]
-    ensures { 262144 ≡ length result }
-{
-    [0; 262144]
-}
+// Room for the longest input.
+const INPUT_ROOM: usize = 262144;
 
 // The output of a beginning, a row so many times, and an end.
 fn show_long(out: &impl Print, head: &[u8], row: &[u8], times: usize, tail: &[u8])
     requires { (length head.now ≤ 400) × (length row.now ≤ 60) × (times ≤ 1100) × (length tail.now ≤ 400) }
 {
-    let mut input = input_buffer();
+    let mut input = [0; INPUT_ROOM];
     let mut at = print::put_text(&mut input, 0, head);
-    let mut k = 0;
-    while k < times {
+    for _row in 0..times {
         at = print::put_text(&mut input, at, row);
-        k += 1;
     }
     at = print::put_text(&mut input, at, tail);
     show(out, &input[..at]);
@@ -64,7 +58,7 @@ fn put_row(input: &mut [u8], at: usize, n: u64, floats: &[u8]) -> usize
 fn show_many(out: &impl Print, tracks: u64)
     requires { tracks ≤ 1001 }
 {
-    let mut input = input_buffer();
+    let mut input = [0; INPUT_ROOM];
     let mut at = print::put_text(
         &mut input,
         0,
@@ -72,19 +66,17 @@ fn show_many(out: &impl Print, tracks: u64)
           L 3FF0000000000000 BFE0000000000000 0000000000000000\n\
           L 3FF0000000000000 3FE0000000000000 0000000000000000\n",
     );
-    let mut k = 0;
-    while k < tracks {
-        k += 1;
+    for n in 1..tracks + 1 {
         at = put_row(
             &mut input,
             at,
-            k,
+            n,
             b"3FF0000000000000 0000000000000000 BFE0000000000000\n",
         );
         at = put_row(
             &mut input,
             at,
-            k,
+            n,
             b"3FF0000000000000 0000000000000000 3FE0000000000000\n",
         );
     }

@@ -5,7 +5,7 @@
 //     inner    a length by its coordinates: for the crates of this repository
 #![tactic(auto)]
 
-ghost use Rattle.std.specs.Prelude.{◌≡◌};
+ghost use Rattle.std.specs.Prelude.{◌≡◌, [], ◌∷◌};
 ghost use Rattle.sphericalpoint.specs.Vector.{xyz_add, xyz_sub, xyz_mul, xyz_div, xyz_neg, xyz_abs, xyz_sum, xyz_dot, xyz_cross, xyz_length, xyz_eq, normalized};
 ghost use Rattle.sphericalpoint.specs.Point.{normalized_unless_short, point_from};
 
@@ -48,6 +48,15 @@ impl SphericalPoint {
         } else {
             normalize(xyz)
         }
+    }
+}
+
+// The three coordinates in sequence.
+impl From<SphericalPoint> for [f64; 3] {
+    ghost from_gives = { λ p out. out ≡ p.x ∷ p.y ∷ p.z ∷ [] };
+
+    fn from(p: SphericalPoint) -> [f64; 3] {
+        [p.x, p.y, p.z]
     }
 }
 

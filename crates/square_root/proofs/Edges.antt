@@ -7,7 +7,7 @@ use native.Mathlib.Nat.{not-le_of_lt, mod-eq_of_lt, eq-zero-or-pos}
 use native.Mathlib.Omega.{arith}
 use lib.Dec.{T, ltb}
 use lib.Arith.{le→nltb}
-use lib.Ieee.{Float, nan, inf, fin, binary64, fits, is_nan, lt, div, of_bits, to_bits, nan_bits}
+use lib.Ieee.{Float, nan, inf, fin, binary64, fits, is_nan, lt, of_bits, to_bits, nan_bits}
 use lib.Ieee.Fits.{up_pos}
 use lib.Ieee.Bits.{of_bits-to_bits, nan_bits_above}
 use borrow.Author.Tests.{ltb-false}
@@ -54,13 +54,9 @@ infinite (fin false m e) F h l = absurd (not-le_of_lt (finite_bits_lt (fin false
 
 -- ---- below zero
 
-zero_over_zero : div binary64 (of_bits binary64 0) (of_bits binary64 0) ≡ nan
-unfolding div of_bits
-zero_over_zero = refl
-
-pub negative : (x : Float) → lt x (of_bits binary64 0) ≡ true → div binary64 (of_bits binary64 0) (of_bits binary64 0) ≡ sqrt_of x
+pub negative : (x : Float) → lt x (of_bits binary64 0) ≡ true → of_bits binary64 0x7ff8_0000_0000_0000 ≡ sqrt_of x
 unfolding of_bits
-negative x h = zero_over_zero ∙ sym (roots_elsewhere.below_zero x h)
+negative x h = sym (roots_elsewhere.below_zero x h)
 
 -- ---- neither: a NaN or a zero
 

@@ -43,7 +43,7 @@ fn table_root(n: u64) -> u64
     ensures { WholeRoot (128 * n) result }
 {
     let i = (n - 32) as usize;
-    ROOTS[i / 8][i % 8] as u64
+    u64::from(ROOTS[i / 8][i % 8])
 }
 
 // The whole root of a number of 13 or 14 binary digits, itself of 7: the table's, or one more.
@@ -110,8 +110,8 @@ fn root_bits(b: u64) -> u64
     ensures { (result < 0x7ff0_0000_0000_0000) × (of_bits binary64 result ≡ sqrt_of (of_bits binary64 b)) }
 {
     let m = significand(b);
-    let z = u64::leading_zeros(m) - 11;
-    let f = place(b) + 1074 - z as u64;
+    let z = m.leading_zeros() - 11;
+    let f = place(b) + 1074 - u64::from(z);
     let s = (m << z) * (1 + f % 2);
     let r = root54(s);
     (f / 2 - 26) * LEADING_ONE + (r + 1) / 2
@@ -123,10 +123,7 @@ fn root_pattern(b: u64) -> u64
     requires { (1 ≤ b) × (b < 0x7ff0_0000_0000_0000) }
     ensures { (result < 0x7ff0_0000_0000_0000) × (of_bits binary64 result ≡ sqrt_of (of_bits binary64 b)) }
 {
-    if b < NEAR_BELOW {
-        return root_bits(b);
-    }
-    if b > NEAR_ABOVE {
+    if b < NEAR_BELOW || b > NEAR_ABOVE {
         return root_bits(b);
     }
     (b + ONE) / 2
@@ -138,14 +135,14 @@ pub fn sqrt(x: f64) -> f64
     ensures { result ≡ sqrt_of x }
 {
     if x > 0.0 {
-        let b = f64::to_bits(x);
+        let b = x.to_bits();
         if b < INFINITY {
             return f64::from_bits(root_pattern(b));
         }
         return x;
     }
     if x < 0.0 {
-        return 0.0 / 0.0;
+        return f64::NAN;
     }
     x
 }

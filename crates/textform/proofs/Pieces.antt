@@ -4,15 +4,22 @@ use mathlib.Core.Path.{◌≡◌, sym, ap, ◌∙◌, subst}
 use mathlib.Core.List.Memᴰ
 use mathlib.Core.List.{List, [], ◌∷◌, ◌++◌, append-nil, append_assoc, flatten, Memᴰ}
 use mathlib.Core.Logic.{⊎_elim}
-use Prim.Native.Nat.{ℕ}
+use Prim.Native.Nat.{ℕ, ◌≤◌}
+use native.Mathlib.Omega.{arith}
+use lib.ListN.{length, take}
+use lib.Seq.{length-take-le}
 use Rattle.textform.specs.Text.{in_turn}
-use Rattle.textform.specs.Pieces.{OneRead, OfPieces}
+use Rattle.textform.specs.Pieces.{most_read, OneRead, OfPieces}
 use Rattle.textform.proofs.Turns.{fed-in_pieces}
 
 flatten_last : (pieces : List (List ℕ)) (piece : List ℕ) → flatten (pieces ++ (piece ∷ [])) ≡ flatten pieces ++ piece
 unfolding flatten
 flatten_last [] piece = append-nil piece
 flatten_last (first ∷ pieces) piece = ap (λ (l : List ℕ). first ++ l) (flatten_last pieces piece) ∙ sym (append_assoc first (flatten pieces) piece)
+
+-- what a read gave that gave some bytes, and no more than the buffer has
+pub one_read : (n : ℕ) (bytes : List ℕ) → (n ≡ 0 → ⊥) → n ≤ length bytes → length bytes ≡ most_read → OneRead (take n bytes)
+one_read n bytes some few whole = let t = length-take-le n bytes few in (omega arith, omega arith)
 
 -- before the first piece
 pub no_pieces : {P : List ℕ → Type 0} → P [] → OfPieces P
@@ -37,13 +44,8 @@ module _ {P Q : List ℕ → Type 0} (before : OfPieces P) where
 -- ---- bytes fed in turn
 
 -- What is held is what the bytes of the pieces lead to, from the start on; `new` is what another piece makes of it. Q and R are what else is known of each.
-module _ {S Q R : Type 0} (step : S → ℕ → S) (start held new : S) (piece : List ℕ) where
-  module _ (before : OfPieces (λ (bytes : List ℕ). Q × (held ≡ in_turn step start bytes))) (known : R) (fed : new ≡ in_turn step held piece) where
-    pub fed_more : OneRead piece → OfPieces (λ (bytes : List ℕ). R × (new ≡ in_turn step start bytes))
-    fed_more size =
-        one_more_lem before piece size (λ bytes h. (known, fed ∙ ap (λ (s : S). in_turn step s piece) h.1 ∙ fed-in_pieces S step start bytes piece))
-
-    -- without a byte it changes nothing
-    pub fed_none : piece ≡ [] → OfPieces (λ (bytes : List ℕ). R × (new ≡ in_turn step start bytes))
-    unfolding in_turn
-    fed_none none = same_pieces before (λ bytes h. (known, fed ∙ ap (in_turn step held) none ∙ h.1))
+pub fed_more : {S Q R : Type 0} (step : S → ℕ → S) (start held new : S) (piece : List ℕ)
+    → OfPieces (λ (bytes : List ℕ). Q × (held ≡ in_turn step start bytes)) → R → new ≡ in_turn step held piece → OneRead piece
+    → OfPieces (λ (bytes : List ℕ). R × (new ≡ in_turn step start bytes))
+fed_more {S} step start held new piece before known fed size =
+    one_more_lem before piece size (λ bytes h. (known, fed ∙ ap (λ (s : S). in_turn step s piece) h.1 ∙ fed-in_pieces S step start bytes piece))

@@ -15,7 +15,8 @@ fed-in_pieces S step s [] ys = refl
 fed-in_pieces S step s (x ∷ xs) ys = fed-in_pieces S step (step s x) xs ys
 
 -- where the first piece leads, and the other from there
-pub fed_then : {S : Type 0} (step : S → ℕ → S) (s : S) (xs ys : List ℕ) {t u : S} → in_turn step s xs ≡ t → in_turn step t ys ≡ u → in_turn step s (xs ++ ys) ≡ u
+pub fed_then : {S : Type 0} (step : S → ℕ → S) (s : S) (xs ys : List ℕ) {t u : S} → in_turn step s xs ≡ t → in_turn step t ys ≡ u
+    → in_turn step s (xs ++ ys) ≡ u
 fed_then {S} step s xs ys h k = sym (fed-in_pieces S step s xs ys) ∙ ap (λ (t : S). in_turn step t ys) h ∙ k
 
 module _ {S : Type 0} (step : S → ℕ → S) (s : S) (bytes : List ℕ) (i : ℕ) where

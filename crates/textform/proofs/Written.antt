@@ -72,7 +72,8 @@ module _ (s : State) (place word d : ℕ) (inside : place < row_last) (digit : d
   unfolding step_with
   last_digit_step here =
       ap (λ (p : Part). step_at append p (moved place word s) (hex_glyph d)) here
-      ∙ ap (λ (o : Option ℕ). if_digit o (λ (v : ℕ). with_float append (of_bits binary64 (16 * word + v)) (moved place word s)) (malformed s)) (glyph_read d digit)
+      ∙ ap (λ (o : Option ℕ). if_digit o (λ (v : ℕ). with_float append (of_bits binary64 (16 * word + v)) (moved place word s)) (malformed s))
+      (glyph_read d digit)
       ∙ ap (λ (p : ℕ). moved p 0 (with_floats (of_bits binary64 (16 * word + d) ∷ []) s)) (next_place place inside)
 
 -- ---- where a float stands
@@ -213,4 +214,5 @@ pub row_read : (second : Bool) (r : Row) (s : State) → RowFits r → s.place �
     → Text.fed s (pick second letter_b letter_a ∷ row_rest r) ≡ after_row second (row_floats r) s
 unfolding in_turn
 row_read second r s fits here =
-    row_fed Text.step (λ (t : State). t) (λ t byte past. refl) (Text.step s (pick second letter_b letter_a)) second r s fits (past_name_lem append second s here)
+    row_fed Text.step (λ (t : State). t) (λ t byte past. refl) (Text.step s (pick second letter_b letter_a)) second r s fits
+    (past_name_lem append second s here)

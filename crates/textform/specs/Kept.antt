@@ -4,18 +4,12 @@ use Rattle.std.specs.Prelude.{◌≡◌, false, List, [], ◌∷◌, ◌++◌, �
 use Rattle.std.proofs.Math.Option.{Option, none, some}
 use Rattle.std.specs.Float.{nan, inf, fin}
 use Rattle.arcstring_check.specs.Answer.{pick}
-use Rattle.textform.specs.declared.inner.read.Digit.{Digit}
-use Rattle.textform.specs.declared.inner.read.Digit.TheVariants as D
 use Rattle.textform.specs.declared.inner.read.Reader.{Reader}
 use Rattle.textform.specs.Text.{row_start, malformed_place, float_bytes, State, fed_with, start}
 
 -- The floats kept of a string: those of 1,025 points, one more than a string may have.
 abbrev pub floats_kept : ℕ
 floats_kept = 3075
-
-abbrev pub digit_value : Digit → Option ℕ
-digit_value (D.Value d) = some d
-digit_value D.None = none
 
 -- 2 in the place of a NaN: both are out of range
 abbrev pub in_place : Float → Float

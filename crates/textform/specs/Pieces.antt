@@ -1,7 +1,7 @@
 -- The input as a program reads it: in pieces, one after another. No contract can say what is read from a descriptor. Those of the programs say: there are
 -- such pieces, and what is held, or printed, is that of all of them in a row. Definitions only.
 use mathlib.Core.List.{List, flatten, Memᴰ}
-use Rattle.std.specs.Prelude.{ℕ, ◌≤◌, min, length, ℤ, pos, negsuc, Result, Ok, Err}
+use Rattle.std.specs.Prelude.{ℕ, ◌≤◌, length}
 
 -- the bytes of a buffer
 abbrev pub most_read : ℕ
@@ -16,18 +16,3 @@ pub record OfPieces (P : List ℕ → Type 0) : Type 0 where
   pub pieces : List (List ℕ)
   pub each : (piece : List ℕ) → Memᴰ piece pieces → OneRead piece
   pub holds : P (flatten pieces)
-
--- What a read of a buffer of so many bytes answers, as one number: how many it gave, or a negative number where it failed.
-abbrev pub Answered : ℕ → ℤ → Type 0
-Answered most (pos k) = k ≤ most
-Answered most (negsuc k) = Unit {0}
-
--- the same as a result
-abbrev pub as_result : ℤ → Result ℕ Unit
-as_result (pos k) = Ok k
-as_result (negsuc k) = Err tt
-
--- such an answer as a number of the buffer's bytes, 0 where it is negative
-abbrev pub clamp_len : ℤ → ℕ → ℕ
-clamp_len (pos k) most = min k most
-clamp_len (negsuc k) most = 0

@@ -3,7 +3,7 @@
 // first column.
 //
 //     inner          for the programs of this repository
-//     inner::pieces  one read, and what it answered
+//     inner::pieces  a buffer for one read of the input
 //     inner::read    the machine over the bytes
 //     inner::print   texts, decimal numbers, the refusal line
 //     inner::say     text written, or a failure

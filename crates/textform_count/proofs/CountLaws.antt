@@ -35,7 +35,8 @@ module _ (a : List Float) (whole : length a % 3 ≡ 0) where
   check_reversed : build_check (flat (reverse (points a))) ≡ build_check a
   check_reversed =
       let d = Permᴰ.reverse (points a) in
-      build_by_parts (flat (reverse (points a))) (flat (points a)) (length_order d) (range_order d) ∙ ap build_check (flat-points (length a / 3) a (omega arith))
+      build_by_parts (flat (reverse (points a))) (flat (points a)) (length_order d) (range_order d)
+      ∙ ap build_check (flat-points (length a / 3) a (omega arith))
 
   module _ (closes : ClosesOnItself (points a)) where
     between_reversed : (t : ArcString) → counts_between (built_string (points (flat (reverse (points a))))) t ≡ counts_between (built_string (points a)) t

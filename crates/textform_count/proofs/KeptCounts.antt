@@ -72,7 +72,8 @@ module _ (v : List Float) where
       kept_short v (omega arith) ∙ all_in_range_same v w.in-range
 
 -- an answer behind two checks
-behind_checks : {A : Type 0} (m n : ℕ) (x y : Answer A) → (m ≡ 0 → n ≡ 0 → x ≡ y) → unless_refused m (unless_refused n x) ≡ unless_refused m (unless_refused n y)
+behind_checks : {A : Type 0} (m n : ℕ) (x y : Answer A) → (m ≡ 0 → n ≡ 0 → x ≡ y)
+    → unless_refused m (unless_refused n x) ≡ unless_refused m (unless_refused n y)
 behind_checks zero zero x y h = h refl refl
 behind_checks zero (suc n) x y h = refl
 behind_checks (suc m) n x y h = refl

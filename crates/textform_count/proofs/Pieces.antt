@@ -20,17 +20,12 @@ pub no_pieces : (r : Reader) (a b : List Float) → Sound r → held_state r [] 
 unfolding kept_reading in_turn
 no_pieces r a b sound h none-of-a none-of-b = pieces.no_pieces (sound, begun r none-of-a none-of-b a b h)
 
--- a piece, fed to what is held
-module _ (r q : Reader) (a b a' b' : List Float) (piece : List ℕ) (before : ReadInPieces r a b) (sound : Sound q) where
-  module _ (fed : held_state q a' b' ≡ fed_with keep (held_state r a b) piece) where
-    pub one_more_lem : OneRead piece → ReadInPieces q a' b'
-    unfolding kept_reading
-    one_more_lem size = pieces.fed_more (step_with keep) start (held_state r a b) (held_state q a' b') piece before sound fed size
-
-    -- without a byte it changes nothing
-    pub none_more : piece ≡ [] → ReadInPieces q a' b'
-    unfolding kept_reading
-    none_more none = pieces.fed_none (step_with keep) start (held_state r a b) (held_state q a' b') piece before sound fed none
+-- one piece more, fed to what is held
+pub one_more_lem : (r q : Reader) (a b a' b' : List Float) (piece : List ℕ) → ReadInPieces r a b → Sound q
+    → held_state q a' b' ≡ fed_with keep (held_state r a b) piece → OneRead piece → ReadInPieces q a' b'
+unfolding kept_reading
+one_more_lem r q a b a' b' piece before sound fed size =
+    pieces.fed_more (step_with keep) start (held_state r a b) (held_state q a' b') piece before sound fed size
 
 -- at the end
 pub read_and_printed : (r : Reader) (a b : List Float) (text : List ℕ) → ReadInPieces r a b → text ≡ printed (count_state (held_state r a b))

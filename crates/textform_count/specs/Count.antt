@@ -9,8 +9,6 @@ use Rattle.arcstring_tally.specs.declared.counts.Counts.{Counts}
 use Rattle.arcstring_tally.specs.Pairs.{pairs_between, counts_of}
 use Rattle.textform.specs.Text.{State, reading, well_formed}
 use Rattle.textform_count.specs.Print.{printed}
-use Rattle.textform_count.specs.declared.inner.count.Conclusion.{Conclusion}
-use Rattle.textform_count.specs.declared.inner.count.Conclusion.TheVariants as C
 
 -- the counts of every leg of the first with every leg of the second, with no margin
 unfoldable pub counts_between : ArcString → ArcString → Counts
@@ -18,7 +16,8 @@ counts_between a b = counts_of (pairs_between no_margin (legs a.vertices a.close
 
 -- both are built, the first first: 1, 2, 3 and 4 of the first before those of the second
 unfoldable pub count_built : List Float → List Float → Answer Counts
-count_built a b = unless_refused (build_check a) (unless_refused (build_check b) (answered (counts_between (built_string (points a)) (built_string (points b)))))
+count_built a b =
+    unless_refused (build_check a) (unless_refused (build_check b) (answered (counts_between (built_string (points a)) (built_string (points b)))))
 
 -- malformed input is refused by 8 before everything else
 unfoldable pub count_state : State → Answer Counts
@@ -27,8 +26,3 @@ count_state s = pick (well_formed s) (count_built s.a s.b) (refused 8)
 -- the bytes printed, of the bytes read
 unfoldable pub output : List ℕ → List ℕ
 output bytes = printed (count_state (reading bytes))
-
--- what the code answers
-abbrev pub conclusion_answer : Conclusion → Answer Counts
-conclusion_answer (C.Counts c) = answered c
-conclusion_answer (C.Refused n) = refused n

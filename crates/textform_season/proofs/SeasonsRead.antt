@@ -19,7 +19,8 @@ use Rattle.textform.proofs.Peeled.{Begins, malformed_never_ends, names_peeled, r
 use Rattle.textform_report.specs.Permille.{most_tracks}
 use Rattle.textform_season.specs.declared.inner.column.Column.{Column}
 use Rattle.textform_season.specs.declared.inner.column.Column.TheVariants as C
-use Rattle.textform_season.specs.Season.{letter_l, column_after, is_empty, malformed, in_column, on_in_row, well_formed, next_track, row_of, keep_track, reading}
+use Rattle.textform_season.specs.Season.{letter_l, column_after, is_empty, malformed, in_column, on_in_row, well_formed, next_track, row_of, keep_track}
+use Rattle.textform_season.specs.Season.{reading}
 use Rattle.textform_season.specs.SeasonLaws.{column_from, column_of}
 use Rattle.textform_season.specs.SeasonText.{rows_text, tracks_text, RowsFit, TracksFit, ReadIsWritten}
 use Rattle.textform_season.proofs.Columns.{FilledOption, column_filled, number_only_as_printed, limit_only_as_letter}
@@ -128,7 +129,8 @@ module _ (last : ℕ) (done : List (List Float)) (t : State) (bytes name rest : 
   abbrev before : Plain
   before = holding last done t
 
-  limit_row_lem : (b : Bool) → eqb last 0 ≡ b → column_of name ≡ some C.Limit → Ends (pick b (on_in_row false before) (malformed before)) rest → NextRow last bytes
+  limit_row_lem : (b : Bool) → eqb last 0 ≡ b → column_of name ≡ some C.Limit → Ends (pick b (on_in_row false before) (malformed before)) rest
+      → NextRow last bytes
   limit_row_lem true e stands h =
       let named = limit_only_as_letter name stands ∙ sym (ap (λ (b : Bool). pick b (letter_l ∷ []) (decimal last)) e) in
       same (row_from last done t false bytes name rest is named h)

@@ -50,7 +50,8 @@ module _ (limit : List Float) where
   unfolding count_tracks
   count_last [] track = alone (count_built track limit)
   count_last (first ∷ tracks) track =
-      ap (λ (x : Answer (List Counts)). and_then (count_built first limit) (λ (c : Counts). map_answer (λ (cs : List Counts). c ∷ cs) x)) (count_last tracks track)
+      ap (λ (x : Answer (List Counts)). and_then (count_built first limit) (λ (c : Counts). map_answer (λ (cs : List Counts). c ∷ cs) x))
+      (count_last tracks track)
       ∙ in-turn (count_built first limit) (count_tracks limit tracks) (count_built track limit)
 
   -- as many counts as tracks
@@ -113,5 +114,6 @@ pairs_of_track track limit c h =
     let ls = legs s.vertices s.closed in
     let ms = legs t.vertices t.closed in
     let p = both_passed (build_check track) (build_check limit) (counts_of (pairs_between no_margin ls ms)) c h in
-    let n : sum_of_counts c ≡ length ls * length ms = ap sum_of_counts (sym p.2) ∙ counts_sum (pairs_between no_margin ls ms) ∙ length_between no_margin ls ms in
+    let n : sum_of_counts c ≡ length ls * length ms = ap sum_of_counts (sym p.2) ∙ counts_sum (pairs_between no_margin ls ms)
+    ∙ length_between no_margin ls ms in
     subst (λ (k : ℕ). k ≤ most_pairs) (sym n) (mul-le-mul (few_legs track p.0) (few_legs limit p.1))

@@ -1,8 +1,8 @@
 -- The reading as the code keeps it: at most 1,025 points of the limit and of one track, and of the tracks before that one their lines and their sums. For the
 -- contracts of inner functions. Definitions only.
-use Rattle.std.specs.Prelude.{◌≡◌, List, [], ℕ, ◌+◌, ◌-◌, ◌*◌, ◌≤◌, take, Float}
-use Rattle.std.proofs.Math.Option.{Option, none, some}
-use Rattle.arcstring_check.specs.Answer.{Answer, refused, answered, unless_refused, map_answer, and_then, pick}
+use Rattle.std.specs.Prelude as Std
+use Rattle.std.specs.Prelude.{◌≡◌, List, [], ℕ, ◌+◌, ◌-◌, ◌*◌, ◌≤◌, take, Float, Result, Ok, Err, Some, None}
+use Rattle.arcstring_check.specs.Answer.{Answer, refused, answered, unless_refused, map_answer, and_then, pick, refusal_number}
 use Rattle.arcstring_check.specs.Check.{build_check}
 use Rattle.same_crossings.specs.CountLaws.{sum_of_counts}
 use Rattle.textform.specs.Kept.{keep, held_state, Sound}
@@ -13,13 +13,10 @@ use Rattle.textform_report.specs.Permille.{most_tracks}
 use Rattle.textform_report.specs.Report.{line_room, heading_length, Report, report_for, with_track, finished}
 use Rattle.textform_season.specs.declared.inner.column.Column.{Column}
 use Rattle.textform_season.specs.declared.inner.column.Column.TheVariants as C
-use Rattle.textform_season.specs.declared.inner.column.Next.{Next}
-use Rattle.textform_season.specs.declared.inner.column.Next.TheVariants as N
 use Rattle.textform_season.specs.declared.inner.track.Lines.{Lines}
-use Rattle.textform_season.specs.declared.inner.track.Tracks.{Tracks}
-use Rattle.textform_season.specs.declared.inner.track.Tracks.TheVariants as T
 use Rattle.textform_season.specs.declared.inner.read.Reading.{Reading}
 use Rattle.textform_season.specs.Season.{Season, begun, well_formed, all_done, fed_with}
+use Rattle.arcstring_check.specs.declared.check.Refusal.{Refusal}
 
 -- room for the longest report: a heading of 39 bytes, and at most 126 for each of 1,001 lines
 abbrev pub report_room : ℕ
@@ -35,33 +32,29 @@ end_track limit track n done = and_then done (λ (r : Report). map_answer (with_
 abbrev pub held_lines : Lines → List ℕ → Report
 held_lines l out = record { text = take l.at out; sums = l.sums }
 
-abbrev pub held_tracks : Tracks → List ℕ → Answer Report
-held_tracks (T.Refused n) out = refused n
-held_tracks (T.Counted l) out = answered (held_lines l out)
+abbrev pub held_tracks : Result Lines Refusal → List ℕ → Answer Report
+held_tracks (Err e) out = refused (refusal_number e)
+held_tracks (Ok l) out = answered (held_lines l out)
 
 -- no more text, and no more pairs, than k tracks have
 pub record LinesSound (l : Lines) (k : ℕ) : Type 0 where
   pub room : l.at ≤ heading_length + line_room * k
   pub pairs : sum_of_counts l.sums ≤ most_pairs * k
 
-abbrev pub TracksSound : Tracks → ℕ → Type 0
-TracksSound (T.Refused n) k = Unit
-TracksSound (T.Counted l) k = LinesSound l k
+abbrev pub TracksSound : Result Lines Refusal → ℕ → Type 0
+TracksSound (Err e) k = Unit
+TracksSound (Ok l) k = LinesSound l k
 
 -- ---- the whole reading
-
-abbrev pub next_column : Next → Option Column
-next_column (N.Column c) = some c
-next_column N.None = none
 
 abbrev pub ColumnSound : Column → Type 0
 ColumnSound C.Empty = Unit
 ColumnSound C.Limit = Unit
 ColumnSound (C.Number n) = (1 ≤ n) × (n ≤ most_tracks)
 
-abbrev pub NextSound : Next → Type 0
-NextSound (N.Column c) = ColumnSound c
-NextSound N.None = Unit
+abbrev pub NextSound : Std.Option Column → Type 0
+NextSound (Some c) = ColumnSound c
+NextSound None = Unit
 
 -- what the reading and the three lists hold
 abbrev pub held_season : Reading → List Float → List Float → List ℕ → Season (Answer Report)

@@ -31,7 +31,8 @@ long_at : (n : ℕ) (d : ℤ) → T (fits binary64 (fin false n d)) → T (not (
 unfolding lt
 long_at n d F h =
     let l : 0x107e1fe91b0b7 * 1 * down d ≤ n * up d * 2 ^ 83 = nltb→le (n * up d * 2 ^ 83) (0x107e1fe91b0b7 * 1 * down d) h in
-    let g = no_less (n * up d) (down d) (2 ^ 1074) (in_units (fin false n d)) (0x107e1fe91b0b7 * 1) (2 ^ 83) (down_pos d) (exact_units binary64 false n d F) l in
+    let g = no_less (n * up d) (down d) (2 ^ 1074) (in_units (fin false n d)) (0x107e1fe91b0b7 * 1) (2 ^ 83) (down_pos d)
+    (exact_units binary64 false n d F) l in
     le_of_mul-le-mul_right (le_trans (lit≤ {m = 2 ^ 1039 * 2 ^ 83} {n = 0x107e1fe91b0b7 * 1 * 2 ^ 1074} tt) g) (pow_pos 83)
 
 -- a length is not negative, so the sign is not in the way

@@ -27,8 +27,8 @@ Short a = T (lt (xyz_length a) equality_tolerance)
 abbrev pub Long : SphericalPoint → Type 0
 Long a = T (not (lt (xyz_length a) equality_tolerance))
 
--- The exact sum of the squares, in units of 2 ^ -2148. The size of an `f64` is a whole number of units of 2 ^ -1074 (`ExactUnits` of ieee754), and `in_units` is
--- that number.
+-- The exact sum of the squares, in units of 2 ^ -2148. The size of an `f64` is a whole number of units of 2 ^ -1074 (`ExactUnits` of ieee754), and `in_units`
+-- is that number.
 abbrev pub squares : SphericalPoint → ℕ
 squares a = in_units a.x * in_units a.x + in_units a.y * in_units a.y + in_units a.z * in_units a.z
 

@@ -1,41 +1,44 @@
 // A leg, two points by value, and the legs of a string by position.
-ghost use Rattle.std.specs.Prelude.{◌≡◌, ◌+◌, ◌*◌, ◌≤◌, ◌<◌, length};
-ghost use Rattle.arcstring.specs.Points.{point_at};
+ghost use Rattle.std.specs.Prelude.{◌≡◌, ◌∷◌, [], ◌+◌, ◌*◌, ◌≤◌, ◌<◌, length, get_or};
+ghost use Rattle.std.specs.Float.{nan};
+ghost use Rattle.arcstring.specs.Points.{point, point_at};
 ghost use Rattle.arcstring_check.specs.Check.{check_number};
 ghost use Rattle.arcstring.specs.Leg.{leg, leg_of, leg_check, position_after, leg_at, leg_count, leg_floats};
 
-use arcstring_check::check::Checked;
+use super::vertex::Vertices;
+use arcstring_check::check::Refusal;
 use arcstring_check::inner::checks;
 use sphericalpoint::SphericalPoint;
+
+// A point handed over as an array of three.
+fn point_of(c: [f64; 3]) -> SphericalPoint
+    ensures { result ≡ point (get_or c 0 nan) (get_or c 1 nan) (get_or c 2 nan) }
+{
+    SphericalPoint {
+        x: c[0],
+        y: c[1],
+        z: c[2],
+    }
+}
 
 pub fn start_of(arc: [[f64; 3]; 2]) -> SphericalPoint
     ensures { result ≡ (leg_of arc).from }
 {
-    SphericalPoint {
-        x: arc[0][0],
-        y: arc[0][1],
-        z: arc[0][2],
-    }
+    point_of(arc[0])
 }
 
 pub fn end_of(arc: [[f64; 3]; 2]) -> SphericalPoint
     ensures { result ≡ (leg_of arc).to }
 {
-    SphericalPoint {
-        x: arc[1][0],
-        y: arc[1][1],
-        z: arc[1][2],
-    }
+    point_of(arc[1])
 }
 
 // A leg by itself: 4 for its start or its end.
-pub fn check_leg(arc: [[f64; 3]; 2]) -> Checked
+pub fn check_leg(arc: [[f64; 3]; 2]) -> Result<(), Refusal>
     ensures { check_number result ≡ leg_check (leg_of arc) }
 {
-    checks::first_of(
-        checks::check_point(start_of(arc)),
-        checks::check_point(end_of(arc)),
-    )
+    checks::check_point(start_of(arc))?;
+    checks::check_point(end_of(arc))
 }
 
 // A leg as a string of two vertices.
@@ -63,20 +66,27 @@ pub fn position_after(k: usize, n: usize) -> usize
     if k + 1 < n { k + 1 } else { 0 }
 }
 
+// The coordinates of vertex k.
+fn coordinates_at(v: &[f64], k: usize) -> [f64; 3]
+    requires { 3 * k + 3 ≤ length v.now }
+    ensures { result ≡ get_or v.now (3 * k) nan ∷ get_or v.now (3 * k + 1) nan ∷ get_or v.now (3 * k + 2) nan ∷ [] }
+{
+    let at = 3 * k;
+    [v[at], v[at + 1], v[at + 2]]
+}
+
 // The leg from vertex k to vertex j.
 pub fn leg_between(v: &[f64], k: usize, j: usize) -> [[f64; 3]; 2]
     requires { (3 * k + 3 ≤ length v.now) × (3 * j + 3 ≤ length v.now) }
     ensures { leg_of result ≡ leg (point_at v.now k) (point_at v.now j) }
 {
-    let a = 3 * k;
-    let b = 3 * j;
-    [[v[a], v[a + 1], v[a + 2]], [v[b], v[b + 1], v[b + 2]]]
+    [coordinates_at(v, k), coordinates_at(v, j)]
 }
 
-// Leg k of n vertices: the last one goes back to vertex 0.
-pub fn leg_at(v: &[f64], n: usize, k: usize) -> [[f64; 3]; 2]
-    requires { (length v.now ≡ 3 * n) × (k < n) }
-    ensures { leg_of result ≡ leg_at v.now n k }
+// Leg k of a string: the last one goes back to vertex 0.
+pub fn leg_at(string: Vertices, k: usize) -> [[f64; 3]; 2]
+    requires { k < string.n }
+    ensures { leg_of result ≡ leg_at string.entry.v.now string.entry.n k }
 {
-    leg_between(v, k, position_after(k, n))
+    leg_between(string.v, k, position_after(k, string.n))
 }

@@ -1,6 +1,6 @@
 // Vertices of flat lists, and their numbers in lists beside them: one read, one written, a run of them copied, those at given
 // positions gathered. Every call that moves vertices moves whole ones by these.
-ghost use Rattle.std.specs.Prelude.{◌≡◌, ◌∷◌, [], ◌++◌, map, ◌+◌, ◌*◌, ◌/◌, ◌≤◌, ◌<◌, length, take, drop};
+ghost use Rattle.std.specs.Prelude.{◌≡◌, ◌∷◌, [], ◌++◌, map, ◌+◌, ◌*◌, ◌/◌, ◌%◌, ◌≤◌, ◌<◌, length, take, drop};
 ghost use Rattle.arcstring.specs.Points.{point_at, flat};
 ghost use Rattle.arcstring.specs.Positions.{Within, buoy_at, vertex_at, positions_from};
 ghost use Rattle.arcstring.specs.Splice.{splice};
@@ -27,14 +27,67 @@ pub fn vertex_at(v: &[f64], k: usize) -> SphericalPoint
     }
 }
 
-// Vertex k with its number.
-pub fn numbered_at(v: &[f64], buoys: &[u32], k: usize) -> Vertex
-    requires { (3 * k + 3 ≤ length v.now) × (k < length buoys.now) }
-    ensures { result ≡ vertex_at v.now buoys.now k }
-{
-    Vertex {
-        place: vertex_at(v, k),
-        buoy: buoys[k],
+// The vertices of a string in a flat list, and how many they are.
+#[derive(Clone, Copy)]
+pub struct Vertices<'a> {
+    pub v: &'a [f64],
+    pub n: usize,
+    ghost whole: { length v.now ≡ 3 * n },
+}
+
+impl<'a> Vertices<'a> {
+    // Those of a list of whole points.
+    pub fn of(v: &'a [f64]) -> Vertices<'a>
+        requires { length v.now % 3 ≡ 0 }
+        ensures { (result.v.now ≡ v.now) × (result.n ≡ length v.now / 3) }
+    {
+        Vertices { v, n: v.len() / 3 }
+    }
+
+    // Vertex k.
+    pub fn at(self, k: usize) -> SphericalPoint
+        requires { k < self.n }
+        ensures { result ≡ point_at self.entry.v.now k }
+    {
+        vertex_at(self.v, k)
+    }
+}
+
+// Vertices and their numbers, as many of the one as of the other.
+#[derive(Clone, Copy)]
+pub struct Numbered<'a> {
+    pub v: &'a [f64],
+    pub buoys: &'a [u32],
+    ghost as_many: { length v.now ≡ 3 * length buoys.now },
+}
+
+impl<'a> Numbered<'a> {
+    // The vertices alone.
+    pub fn vertices(self) -> Vertices<'a>
+        ensures { (result.v.now ≡ self.entry.v.now) × (result.n ≡ length self.entry.buoys.now) }
+    {
+        Vertices {
+            v: self.v,
+            n: self.buoys.len(),
+        }
+    }
+
+    // How many they are.
+    pub fn len(self) -> usize
+        ensures { result ≡ length self.entry.buoys.now }
+    {
+        self.buoys.len()
+    }
+
+    // Vertex k with its number.
+    pub fn at(self, k: usize) -> Vertex
+        requires { k < length self.buoys.now }
+        ensures { result ≡ vertex_at self.entry.v.now self.entry.buoys.now k }
+    {
+        Vertex {
+            place: vertex_at(self.v, k),
+            buoy: self.buoys[k],
+        }
     }
 }
 
@@ -49,28 +102,20 @@ pub fn put_vertex(out: &mut [f64], k: usize, p: SphericalPoint)
     out[at + 2] = p.z;
 }
 
+// `count` items of a list from position `from` on, copied to `out` from position `to` on.
+pub fn copy_items<T: Copy>(list: &[T], from: usize, count: usize, out: &mut [T], to: usize)
+    requires { (from + count ≤ length list.now) × (to + count ≤ length out.old) }
+    ensures { out.new ≡ splice out.old to (take count (drop from list.now)) }
+{
+    out[to..to + count].copy_from_slice(&list[from..from + count]);
+}
+
 // `count` vertices of `v` from position `from` on, copied to `out` from position `to` on.
 pub fn copy_run(v: &[f64], from: usize, count: usize, out: &mut [f64], to: usize)
     requires { (3 * (from + count) ≤ length v.now) × (3 * (to + count) ≤ length out.old) }
     ensures { out.new ≡ splice out.old (3 * to) (take (3 * count) (drop (3 * from) v.now)) }
 {
-    let mut i = 0;
-    while i < count {
-        put_vertex(out, to + i, vertex_at(v, from + i));
-        i += 1;
-    }
-}
-
-// `count` numbers from position `from` on, copied to `out` from position `to` on.
-pub fn copy_buoys(buoys: &[u32], from: usize, count: usize, out: &mut [u32], to: usize)
-    requires { (from + count ≤ length buoys.now) × (to + count ≤ length out.old) }
-    ensures { out.new ≡ splice out.old to (take count (drop from buoys.now)) }
-{
-    let mut i = 0;
-    while i < count {
-        out[to + i] = buoys[from + i];
-        i += 1;
-    }
+    copy_items(v, 3 * from, 3 * count, out, 3 * to);
 }
 
 // The vertices that stand at the positions of `at`, in their order.
@@ -78,26 +123,18 @@ pub fn gather_vertices(v: &[f64], at: &[usize], out: &mut [f64])
     requires { Within (length v.now / 3) at.now × (3 * length at.now ≤ length out.old) }
     ensures { out.new ≡ flat (map (point_at v.now) at.now) ++ drop (3 * length at.now) out.old }
 {
-    let n = at.len();
-    let mut i = 0;
-    while i < n {
-        let k = at[i];
-        put_vertex(out, i, vertex_at(v, k));
-        i += 1;
+    for (i, k) in at.iter().enumerate() {
+        put_vertex(out, i, vertex_at(v, *k));
     }
 }
 
-// The numbers of these.
+// The numbers of these. Not one function with the above: what both wrote would be stated of parts of lists, which is no plainer to any caller.
 pub fn gather_buoys(buoys: &[u32], at: &[usize], out: &mut [u32])
     requires { Within (length buoys.now) at.now × (length at.now ≤ length out.old) }
     ensures { out.new ≡ map (buoy_at buoys.now) at.now ++ drop (length at.now) out.old }
 {
-    let n = at.len();
-    let mut i = 0;
-    while i < n {
-        let k = at[i];
-        out[i] = buoys[k];
-        i += 1;
+    for (i, k) in at.iter().enumerate() {
+        out[i] = buoys[*k];
     }
 }
 
@@ -106,21 +143,7 @@ pub fn positions(n: usize, at: &mut [usize])
     requires { n ≤ length at.old }
     ensures { at.new ≡ positions_from 0 n ++ drop n at.old }
 {
-    let mut i = 0;
-    while i < n {
+    for i in 0..n {
         at[i] = i;
-        i += 1;
-    }
-}
-
-// The first `count` numbers of a local list, positions or counts, copied to the start of another.
-pub fn copy_numbers(from: &[usize], count: usize, at: &mut [usize])
-    requires { (count ≤ length from.now) × (count ≤ length at.old) }
-    ensures { at.new ≡ take count from.now ++ drop count at.old }
-{
-    let mut i = 0;
-    while i < count {
-        at[i] = from[i];
-        i += 1;
     }
 }

@@ -1,55 +1,38 @@
 // Whether a point is near an entry of a near list, along a leg, and along an accepted string.
-ghost use Rattle.std.specs.Prelude.{◌≡◌, ◌*◌, ◌≤◌, ◌<◌, length};
+ghost use Rattle.std.specs.Prelude.{◌≡◌, ◌≤◌, ◌<◌};
 ghost use Rattle.arcstring.specs.Points.{points};
-ghost use Rattle.arcstring_check.specs.Check.{stored_check};
 ghost use Rattle.arcstring.specs.Leg.{leg_of, leg_at, legs_from};
-ghost use Rattle.arcstring_along.specs.OnString.{found_at, first_near, near_some, along_leg, along_some_leg, along_string, stored};
+ghost use Rattle.arcstring_along.specs.OnString.{first_near, near_some, along_leg, along_some_leg, along_string, string_of};
+ghost use Rattle.arcstring_check.specs.Answer.{option_of};
 
-use arcstring::inner::{leg, vertex};
+use super::stored::Stored;
+use arcstring::inner::leg;
+use arcstring::inner::vertex::Vertices;
 use arcstring_near::inner::is_near;
 use sphericalpoint::SphericalPoint;
 
 // The position of the first near entry that passes.
-#[derive(Clone, Copy)]
-pub enum Found {
-    At(usize),
-    Nothing,
-}
-
-fn first_near(p: SphericalPoint, near: &[f64], n: usize) -> Found
-    requires { length near.now ≡ 3 * n }
-    ensures { found_at result ≡ first_near p (points near.now) }
+fn first_near(p: SphericalPoint, near: Vertices) -> Option<usize>
+    ensures { option_of result ≡ first_near p (points near.entry.v.now) }
 {
-    let mut k = 0;
-    while k < n {
-        if is_near(p, vertex::vertex_at(near, k)) {
-            return Found::At(k);
-        }
-        k += 1;
-    }
-    Found::Nothing
+    (0..near.n).find(|k| is_near(p, near.at(*k)))
 }
 
-fn near_some(p: SphericalPoint, near: &[f64], n: usize) -> bool
-    requires { length near.now ≡ 3 * n }
-    ensures { result ≡ near_some p (points near.now) }
+fn near_some(p: SphericalPoint, near: Vertices) -> bool
+    ensures { result ≡ near_some p (points near.entry.v.now) }
 {
-    let found = first_near(p, near, n);
-    match found {
-        Found::At(_) => true,
-        Found::Nothing => false,
-    }
+    first_near(p, near).is_some()
 }
 
-// Whether a point is along leg k of n vertices, which are read where they stand; coordinates go to the test in registers. The point stands in the
+// Whether a point is along leg k of a string, whose vertices are read where they stand; coordinates go to the test in registers. The point stands in the
 // second place of the source's test, which seeks the leg's end between start and point.
-pub fn along_leg_at(p: SphericalPoint, v: &[f64], n: usize, k: usize) -> bool
-    requires { (length v.now ≡ 3 * n) × (k < n) }
-    ensures { result ≡ along_leg p (leg_at v.now n k) }
+pub fn along_leg_at(p: SphericalPoint, string: Vertices, k: usize) -> bool
+    requires { k < string.n }
+    ensures { result ≡ along_leg p (leg_at string.entry.v.now string.entry.n k) }
 {
-    let next = if k + 1 < n { k + 1 } else { 0 };
-    let a = vertex::vertex_at(v, k);
-    let b = vertex::vertex_at(v, next);
+    let next = leg::position_after(k, string.n);
+    let a = string.at(k);
+    let b = string.at(next);
     sphericalpoint_coplanar::inner::coplanar_of(a.x, a.y, a.z, p.x, p.y, p.z, b.x, b.y, b.z)
 }
 
@@ -61,28 +44,20 @@ pub fn along_leg(p: SphericalPoint, arc: [[f64; 3]; 2]) -> bool
 }
 
 // Whether a point is along one of the first `l` legs.
-fn along_some_leg(p: SphericalPoint, v: &[f64], n: usize, l: usize) -> bool
-    requires { (length v.now ≡ 3 * n) × (l ≤ n) }
-    ensures { result ≡ along_some_leg p (legs_from v.now 0 l) }
+fn along_some_leg(p: SphericalPoint, string: Vertices, l: usize) -> bool
+    requires { l ≤ string.n }
+    ensures { result ≡ along_some_leg p (legs_from string.entry.v.now 0 l) }
 {
-    let mut k = 0;
-    while k < l {
-        if along_leg_at(p, v, n, k) {
-            return true;
-        }
-        k += 1;
-    }
-    false
+    (0..l).any(|k| along_leg_at(p, string, k))
 }
 
 // Near an entry of the near list, or along a leg.
-pub fn along_string(p: SphericalPoint, v: &[f64], near: &[f64], closed: bool) -> bool
-    requires { (stored_check v.now ≡ 0) × (stored_check near.now ≡ 0) }
-    ensures { result ≡ along_string p (stored v.now near.now closed) }
+pub fn along_string(p: SphericalPoint, s: Stored) -> bool
+    ensures { result ≡ along_string p (string_of s.entry) }
 {
-    if near_some(p, near, near.len() / 3) {
+    if near_some(p, Vertices::of(s.near)) {
         return true;
     }
-    let n = v.len() / 3;
-    along_some_leg(p, v, n, leg::leg_count(n, closed))
+    let string = s.vertices();
+    along_some_leg(p, string, leg::leg_count(string.n, s.closed))
 }

@@ -1,16 +1,14 @@
-// The planes of a string's legs, worked out once into a list that the caller lends, the pair test that reads them by
-// position, and the pass over them that tells which pairs need no test. The list has nine runs of `width` floats, one for
-// each coordinate of a plane's three vectors: so a pass over many legs reads each run in sequence.
-ghost use Rattle.std.specs.Prelude.{◌≡◌, ℕ, ◌+◌, ◌-◌, ◌*◌, ◌≤◌, ◌<◌, eqb, length, get_or, take};
+// The planes of a string's legs, worked out once, the pair test by them, and the pass over them that tells which pairs need no test.
+ghost use Rattle.std.specs.Prelude.{◌≡◌, ℕ, ◌+◌, ◌-◌, ◌≤◌, ◌<◌, eqb, length, get_or, take};
 ghost use Rattle.arcstring_check.specs.Answer.{pick};
 ghost use Rattle.arcstring_check.specs.Check.{most_points};
-ghost use Rattle.arcstring.specs.Leg.{Leg, leg_of, leg_at};
+ghost use Rattle.arcstring.specs.Leg.{leg_of, leg_at};
 ghost use Rattle.arcstring_pair.specs.Pair.{pair_of};
 ghost use Rattle.arcstring_pair.specs.declared.pair.Pair.TheVariants.{Apart};
-ghost use Rattle.arcstring_crossing.specs.declared.inner.planes.Plane.{Plane};
-ghost use Rattle.arcstring_crossing.specs.Plane.{plane_of, plane_sides, run_at, put_run, PlaneAt, PlanesOf, AllApart, FlagsOf, flagged_from};
+ghost use Rattle.arcstring_crossing.specs.Plane.{plane_of, plane_sides, vector_at, plane_at, PlanesOf, AllApart, FlagsOf, flagged_from};
 
 use arcstring::inner::leg;
+use arcstring::inner::vertex::Vertices;
 use arcstring_pair::inner::class;
 use arcstring_pair::pair::Pair;
 use sphericalpoint::SphericalPoint;
@@ -52,125 +50,193 @@ fn side_values(a: Plane, b: Plane, t: SphericalPoint) -> [f64; 4]
     ]
 }
 
-// A vector written at place k of run j and the two after it.
-fn put_run(planes: &mut [f64], width: usize, j: usize, k: usize, p: SphericalPoint)
-    requires { ((j + 3) * width ≤ length planes.old) × (k < width) × (width ≤ most_points) × (j ≤ 6) }
-    ensures { planes.new ≡ put_run planes.old width j k p }
-{
-    planes[j * width + k] = p.x;
-    planes[(j + 1) * width + k] = p.y;
-    planes[(j + 2) * width + k] = p.z;
+// N vectors, coordinate by coordinate, so that a pass over many reads each run in sequence.
+#[derive(Drop)]
+pub struct Vectors<const N: usize> {
+    pub x: [f64; N],
+    pub y: [f64; N],
+    pub z: [f64; N],
 }
 
-// The vector at place k of run j and the two after it.
-fn run_at(planes: &[f64], width: usize, j: usize, k: usize) -> SphericalPoint
-    requires { ((j + 3) * width ≤ length planes.now) × (k < width) × (width ≤ most_points) × (j ≤ 6) }
-    ensures { result ≡ run_at planes.now width j k }
-{
-    SphericalPoint {
-        x: planes[j * width + k],
-        y: planes[(j + 1) * width + k],
-        z: planes[(j + 2) * width + k],
+impl<const N: usize> Vectors<N> {
+    // N times the zero vector.
+    pub fn zero() -> Vectors<N> {
+        Vectors {
+            x: [0.0; N],
+            y: [0.0; N],
+            z: [0.0; N],
+        }
+    }
+
+    // Vector k.
+    pub fn at(&self, k: usize) -> SphericalPoint
+        requires { k < N }
+        ensures { result ≡ vector_at self.now k }
+    {
+        SphericalPoint {
+            x: self.x[k],
+            y: self.y[k],
+            z: self.z[k],
+        }
+    }
+
+    // A vector written as vector k; those before it stay.
+    pub fn put(&mut self, k: usize, p: SphericalPoint)
+        requires { k < N }
+        ensures this { vector_at self.new k ≡ p }
+        ensures others { (j : ℕ) → j < k → vector_at self.new j ≡ vector_at self.old j }
+    {
+        self.x[k] = p.x;
+        self.y[k] = p.y;
+        self.z[k] = p.z;
     }
 }
 
-// A plane written as plane k of a list.
-fn put_plane(planes: &mut [f64], width: usize, k: usize, p: Plane)
-    requires { (9 * width ≤ length planes.old) × (k < width) × (width ≤ most_points) }
-    ensures plane_at { PlaneAt planes.new width k p }
-    ensures by_index { (j : ℕ) → j < k → (q : Plane) → PlaneAt planes.old width j q → PlaneAt planes.new width j q }
-{
-    put_run(planes, width, 0, k, p.normal);
-    put_run(planes, width, 3, k, p.past_start);
-    put_run(planes, width, 6, k, p.before_end);
+// N planes, vector by vector.
+#[derive(Drop)]
+pub struct Planes<const N: usize> {
+    pub normal: Vectors<N>,
+    pub past_start: Vectors<N>,
+    pub before_end: Vectors<N>,
 }
 
-// Plane k of a list.
-fn plane_at(planes: &[f64], width: usize, k: usize) -> Plane
-    requires { (9 * width ≤ length planes.now) × (k < width) × (width ≤ most_points) }
-    ensures { PlaneAt planes.now width k result }
-{
-    let normal = run_at(planes, width, 0, k);
-    let past_start = run_at(planes, width, 3, k);
-    let before_end = run_at(planes, width, 6, k);
-    Plane {
-        normal,
-        past_start,
-        before_end,
+impl<const N: usize> Planes<N> {
+    // N planes that are zero, to be written.
+    pub fn zero() -> Planes<N> {
+        Planes {
+            normal: Vectors::zero(),
+            past_start: Vectors::zero(),
+            before_end: Vectors::zero(),
+        }
+    }
+
+    // Plane k.
+    pub fn at(&self, k: usize) -> Plane
+        requires { k < N }
+        ensures { result ≡ plane_at self.now k }
+    {
+        Plane {
+            normal: self.normal.at(k),
+            past_start: self.past_start.at(k),
+            before_end: self.before_end.at(k),
+        }
+    }
+
+    // A plane written as plane k; those before it stay.
+    pub fn put(&mut self, k: usize, p: Plane)
+        requires { k < N }
+        ensures this { plane_at self.new k ≡ p }
+        ensures others { (j : ℕ) → j < k → plane_at self.new j ≡ plane_at self.old j }
+    {
+        self.normal.put(k, p.normal);
+        self.past_start.put(k, p.past_start);
+        self.before_end.put(k, p.before_end);
+    }
+
+    // The planes of a string's legs, written.
+    pub fn keep(&mut self, legs: Legs)
+        requires { legs.count ≤ N }
+        ensures { PlanesOf legs.entry.string.v.now legs.entry.string.n legs.entry.count self.new }
+    {
+        for k in 0..legs.count {
+            self.put(k, plane_of(legs.at(k)));
+        }
     }
 }
 
-// The planes of the first `l` legs of a string.
-pub fn keep_planes(v: &[f64], n: usize, l: usize, planes: &mut [f64], width: usize)
-    requires { (length v.now ≡ 3 * n) × (l ≤ n) × (l ≤ width) × (width ≤ most_points) × (9 * width ≤ length planes.old) }
-    ensures { PlanesOf v.now n l planes.new width }
-{
-    let mut k = 0;
-    while k < l {
-        put_plane(planes, width, k, plane_of(leg::leg_at(v, n, k)));
-        k += 1;
+// The first `count` legs of a string.
+#[derive(Clone, Copy)]
+pub struct Legs<'a> {
+    pub string: Vertices<'a>,
+    pub count: usize,
+    ghost within: { (count ≤ string.n) × (string.n ≤ most_points) },
+}
+
+impl<'a> Legs<'a> {
+    // Leg k.
+    pub fn at(self, k: usize) -> [[f64; 3]; 2]
+        requires { k < self.count }
+        ensures { leg_of result ≡ leg_at self.entry.string.v.now self.entry.string.n k }
+    {
+        leg::leg_at(self.string, k)
     }
 }
 
-// The class of a pair of legs at a margin, by the plane of each: the second is leg k of a string, whose planes are kept.
-pub fn pair_at(
-    arc: [[f64; 3]; 2],
-    plane: Plane,
-    planes: &[f64],
-    width: usize,
-    v: &[f64],
-    n: usize,
-    k: usize,
-    margin: f64,
-) -> Pair
-    requires v_len { (length v.now ≡ 3 * n) × (k < n) × (9 * width ≤ length planes.now) × (k < width) × (width ≤ most_points) }
-    requires plane_value { (plane ≡ plane_of (leg_of arc)) × PlaneAt planes.now width k (plane_of (leg_at v.now n k)) }
-    ensures { result ≡ pair_of margin (leg_of arc) (leg_at v.now n k) }
-{
-    let other = plane_at(planes, width, k);
-    let t = sphericalpoint::xyz_cross(plane.normal, other.normal);
-    let s = side_values(plane, other, t);
-    class::class_at(t, arc, leg::leg_at(v, n, k), s, margin)
+// A leg with its plane, to be tested against many.
+#[derive(Clone, Copy)]
+pub struct Tested {
+    pub arc: [[f64; 3]; 2],
+    pub plane: Plane,
+    ghost known: { plane ≡ plane_of (leg_of arc) },
 }
 
-// 0 only where leg k's pair is apart: its side values show it. With no branch, so that a pass over many legs works out
-// several at a time.
-fn flag_at(plane: Plane, planes: &[f64], width: usize, k: usize, margin: f64) -> usize
-    requires { (9 * width ≤ length planes.now) × (k < width) × (width ≤ most_points) }
-    ensures { (result ≤ 1) × ((a x : Leg) → plane ≡ plane_of a → PlaneAt planes.now width k (plane_of x) → result ≡ 0
-        → Apart ≡ pair_of margin a x) }
-{
-    let other = plane_at(planes, width, k);
-    let t = sphericalpoint::xyz_cross(plane.normal, other.normal);
-    let s = side_values(plane, other, t);
-    if arcstring_sides::inner::shows_apart(s, margin) {
-        0
-    } else {
-        1
+impl Tested {
+    // A leg to be tested.
+    pub fn of(arc: [[f64; 3]; 2]) -> Tested
+        ensures { leg_of result.arc ≡ leg_of arc }
+    {
+        Tested {
+            arc,
+            plane: plane_of(arc),
+        }
     }
 }
 
-// The flags of a leg's pairs with the legs from position `from` up to `to`, and how many are not 0.
-pub fn flag_row(
-    plane: Plane,
-    planes: &[f64],
-    width: usize,
+// A string's legs with their planes, which are kept.
+#[derive(Clone, Copy)]
+pub struct Kept<'a, const N: usize> {
+    pub legs: Legs<'a>,
+    pub planes: &'a Planes<N>,
+    ghost fits: { (legs.count ≤ N) × (N ≤ most_points) },
+    ghost known: { PlanesOf legs.string.v.now legs.string.n legs.count planes.now },
+}
+
+impl<'a, const N: usize> Kept<'a, N> {
+    // The class of a leg's pair with leg k at a margin, by the plane of each.
+    pub fn pair(self, a: Tested, k: usize, margin: f64) -> Pair
+        requires { k < self.legs.count }
+        ensures { result ≡ pair_of margin (leg_of a.arc) (leg_at self.entry.legs.string.v.now self.entry.legs.string.n k) }
+    {
+        let other = self.planes.at(k);
+        let t = sphericalpoint::xyz_cross(a.plane.normal, other.normal);
+        let s = side_values(a.plane, other, t);
+        class::class_at(t, a.arc, self.legs.at(k), s, margin)
+    }
+
+    // 0 only where a leg's pair with leg k is apart: its side values show it. With no branch, so that a pass over many legs
+    // works out several at a time.
+    fn flag(self, a: Tested, k: usize, margin: f64) -> usize
+        requires { k < self.legs.count }
+        ensures { (result ≤ 1) × (result ≡ 0
+            → Apart ≡ pair_of margin (leg_of a.arc) (leg_at self.entry.legs.string.v.now self.entry.legs.string.n k)) }
+    {
+        let other = self.planes.at(k);
+        let t = sphericalpoint::xyz_cross(a.plane.normal, other.normal);
+        let s = side_values(a.plane, other, t);
+        if arcstring_sides::inner::shows_apart(s, margin) {
+            0
+        } else {
+            1
+        }
+    }
+}
+
+// The flags of a leg's pairs with a string's legs from position `from` on, and how many are not 0.
+pub fn flag_row<const N: usize>(
+    a: Tested,
+    b: Kept<'_, N>,
     from: usize,
-    to: usize,
     margin: f64,
-    flags: &mut [usize],
+    flags: &mut [usize; N],
 ) -> usize
-    requires { (9 * width ≤ length planes.now) × (to ≤ width) × (width ≤ most_points) × (to ≤ length flags.old) }
-    ensures all_apart { result ≡ 0 → AllApart margin plane planes.now width from to }
-    ensures flags_of { FlagsOf margin plane planes.now width from to flags.new }
+    ensures all_apart { result ≡ 0 → AllApart margin (leg_of a.arc) b.entry.legs.string.v.now b.entry.legs.string.n from b.entry.legs.count }
+    ensures flags_of { FlagsOf margin (leg_of a.arc) b.entry.legs.string.v.now b.entry.legs.string.n from b.entry.legs.count flags.new }
 {
     let mut found = 0;
-    let mut k = from;
-    while k < to {
-        let f = flag_at(plane, planes, width, k, margin);
+    for k in from..b.legs.count {
+        let f = b.flag(a, k, margin);
         flags[k] = f;
         found += f;
-        k += 1;
     }
     found
 }
@@ -185,18 +251,22 @@ fn next_place(n: usize, flag: usize) -> usize
 
 // The positions from `from` up to `to` whose flag is set, in sequence, and how many they are. Each position is written
 // and counted only if its flag is set, so that there is no branch to go the wrong way.
-pub fn gather(flags: &[usize], from: usize, to: usize, flagged: &mut [usize]) -> usize
-    requires { (to ≤ length flags.now) × (to ≤ length flagged.old) × (to ≤ most_points) }
-    ensures upper_bound { (result ≤ to - from) × (result ≤ length flagged.new) × (take result flagged.new
-        ≡ flagged_from flags.now from (to - from)) }
-    ensures by_index { (j : ℕ) → j < result → get_or flagged.new j 0 < to }
+pub fn gather<const N: usize>(
+    flags: &[usize; N],
+    from: usize,
+    to: usize,
+    found: &mut [usize; N],
+) -> usize
+    requires { (to ≤ N) × (to ≤ most_points) }
+    ensures as_long { length found.new ≡ N }
+    ensures few { (result ≤ to - from) × (result ≤ N) }
+    ensures all { take result found.new ≡ flagged_from flags.now from (to - from) }
+    ensures by_index { (j : ℕ) → j < result → get_or found.new j 0 < to }
 {
     let mut n = 0;
-    let mut k = from;
-    while k < to {
-        flagged[n] = k;
+    for k in from..to {
+        found[n] = k;
         n = next_place(n, flags[k]);
-        k += 1;
     }
     n
 }

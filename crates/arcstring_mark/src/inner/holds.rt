@@ -1,13 +1,13 @@
 // Whether a leg holds a mark, and which leg of a string is the first that does.
-ghost use Rattle.std.specs.Prelude.{◌≡◌, ◌*◌, ◌≤◌, ◌<◌, length};
+ghost use Rattle.std.specs.Prelude.{◌≡◌, ◌≤◌, ◌<◌};
 ghost use Rattle.arcstring.specs.Points.{point};
 ghost use Rattle.arcstring.specs.Leg.{leg, leg_at, legs_from};
-ghost use Rattle.arcstring_along.specs.OnString.{found_at};
 ghost use Rattle.arcstring_mark.specs.Mark.{inside_leg, mark_on_leg, first_holding};
 ghost use Rattle.arcstring_mark.specs.MarkParts.{between_ends};
+ghost use Rattle.arcstring_check.specs.Answer.{option_of};
 
-use arcstring::inner::{leg, vertex};
-use arcstring_along::inner::along::Found;
+use arcstring::inner::leg;
+use arcstring::inner::vertex::Vertices;
 use float_sizes::inner::size;
 use sphericalpoint::inner::root_of_squares;
 use sphericalpoint::{SphericalPoint, xyz_add_xyz, xyz_cross, xyz_dot, xyz_eq};
@@ -65,28 +65,21 @@ pub fn leg_holds(
     inside_leg(a, b, p)
 }
 
-// Whether leg k of n vertices holds a mark; the vertices are read where they stand.
-fn leg_at_holds(p: SphericalPoint, v: &[f64], n: usize, k: usize) -> bool
-    requires { (length v.now ≡ 3 * n) × (k < n) }
-    ensures { result ≡ mark_on_leg p (leg_at v.now n k) }
+// Whether leg k of a string holds a mark; the vertices are read where they stand.
+fn leg_at_holds(p: SphericalPoint, string: Vertices, k: usize) -> bool
+    requires { k < string.n }
+    ensures { result ≡ mark_on_leg p (leg_at string.entry.v.now string.entry.n k) }
 {
-    let next = leg::position_after(k, n);
-    let a = vertex::vertex_at(v, k);
-    let b = vertex::vertex_at(v, next);
+    let next = leg::position_after(k, string.n);
+    let a = string.at(k);
+    let b = string.at(next);
     leg_holds(a.x, a.y, a.z, b.x, b.y, b.z, p.x, p.y, p.z)
 }
 
-// The first of the first `l` legs of n vertices that holds a mark.
-pub fn first_leg(p: SphericalPoint, v: &[f64], n: usize, l: usize) -> Found
-    requires { (length v.now ≡ 3 * n) × (l ≤ n) }
-    ensures { found_at result ≡ first_holding p (legs_from v.now 0 l) }
+// The first of the first `l` legs of a string that holds a mark.
+pub fn first_leg(p: SphericalPoint, string: Vertices, l: usize) -> Option<usize>
+    requires { l ≤ string.n }
+    ensures { option_of result ≡ first_holding p (legs_from string.entry.v.now 0 l) }
 {
-    let mut k = 0;
-    while k < l {
-        if leg_at_holds(p, v, n, k) {
-            return Found::At(k);
-        }
-        k += 1;
-    }
-    Found::Nothing
+    (0..l).find(|k| leg_at_holds(p, string, *k))
 }

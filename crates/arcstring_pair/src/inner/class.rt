@@ -10,53 +10,57 @@ use arcstring_sides::inner::{
 };
 use sphericalpoint::SphericalPoint;
 
-// Whether a point is equal to one of the four leg ends.
-fn at_end(p: SphericalPoint, arc_a: [[f64; 3]; 2], arc_b: [[f64; 3]; 2]) -> bool
-    ensures { result ≡ at_end p (leg_of arc_a) (leg_of arc_b) }
-{
-    sphericalpoint::xyz_eq(p, leg::start_of(arc_a))
-        | sphericalpoint::xyz_eq(p, leg::end_of(arc_a))
-        | sphericalpoint::xyz_eq(p, leg::start_of(arc_b))
-        | sphericalpoint::xyz_eq(p, leg::end_of(arc_b))
+// The two legs of a pair.
+#[derive(Clone, Copy)]
+struct TwoLegs {
+    a: [[f64; 3]; 2],
+    b: [[f64; 3]; 2],
 }
 
-// The sign bits of a grazing pair agree: the listings drop the point if it is one of the four ends, else they keep it.
-fn kept_or_dropped(point: SphericalPoint, arc_a: [[f64; 3]; 2], arc_b: [[f64; 3]; 2]) -> Outcome
-    ensures { result ≡ kept_or_dropped point (leg_of arc_a) (leg_of arc_b) }
-{
-    if at_end(point, arc_a, arc_b) {
-        Outcome::Dropped(point)
-    } else {
-        Outcome::Kept(point)
+impl TwoLegs {
+    // Whether a point is equal to one of the four leg ends.
+    fn at_end(self, p: SphericalPoint) -> bool
+        ensures { result ≡ at_end p (leg_of self.a) (leg_of self.b) }
+    {
+        sphericalpoint::xyz_eq(p, leg::start_of(self.a))
+            | sphericalpoint::xyz_eq(p, leg::end_of(self.a))
+            | sphericalpoint::xyz_eq(p, leg::start_of(self.b))
+            | sphericalpoint::xyz_eq(p, leg::end_of(self.b))
     }
-}
 
-// What the source does with a grazing pair.
-fn grazing_outcome(
-    t: SphericalPoint,
-    arc_a: [[f64; 3]; 2],
-    arc_b: [[f64; 3]; 2],
-    s: [f64; 4],
-) -> Outcome
-    ensures { result ≡ grazing_outcome t (leg_of arc_a) (leg_of arc_b) s }
-{
-    if all_sign_positive(s) {
-        return kept_or_dropped(t, arc_a, arc_b);
+    // The sign bits of a grazing pair agree: the listings drop the point if it is one of the four ends, else they keep it.
+    fn kept_or_dropped(self, point: SphericalPoint) -> Outcome
+        ensures { result ≡ kept_or_dropped point (leg_of self.a) (leg_of self.b) }
+    {
+        if self.at_end(point) {
+            Outcome::Dropped(point)
+        } else {
+            Outcome::Kept(point)
+        }
     }
-    if all_sign_negative(s) {
-        return kept_or_dropped(sphericalpoint::xyz_neg(t), arc_a, arc_b);
-    }
-    Outcome::None
-}
 
-// The signs agree: an end if the point is one of the four, else clean.
-fn end_or_clean(p: SphericalPoint, arc_a: [[f64; 3]; 2], arc_b: [[f64; 3]; 2]) -> Pair
-    ensures { result ≡ end_or_clean p (leg_of arc_a) (leg_of arc_b) }
-{
-    if at_end(p, arc_a, arc_b) {
-        Pair::End(p)
-    } else {
-        Pair::Clean(p)
+    // What the source does with a grazing pair.
+    fn grazing_outcome(self, t: SphericalPoint, s: [f64; 4]) -> Outcome
+        ensures { result ≡ grazing_outcome t (leg_of self.a) (leg_of self.b) s }
+    {
+        if all_sign_positive(s) {
+            return self.kept_or_dropped(t);
+        }
+        if all_sign_negative(s) {
+            return self.kept_or_dropped(sphericalpoint::xyz_neg(t));
+        }
+        Outcome::None
+    }
+
+    // The signs agree: an end if the point is one of the four, else clean.
+    fn end_or_clean(self, p: SphericalPoint) -> Pair
+        ensures { result ≡ end_or_clean p (leg_of self.a) (leg_of self.b) }
+    {
+        if self.at_end(p) {
+            Pair::End(p)
+        } else {
+            Pair::Clean(p)
+        }
     }
 }
 
@@ -70,14 +74,15 @@ pub fn class_at(
 ) -> Pair
     ensures { result ≡ class_at margin t (leg_of arc_a) (leg_of arc_b) s }
 {
+    let legs = TwoLegs { a: arc_a, b: arc_b };
     if some_grazing(s, margin) {
-        return Pair::Grazing(grazing_outcome(t, arc_a, arc_b, s));
+        return Pair::Grazing(legs.grazing_outcome(t, s));
     }
     if all_above(s) {
-        return end_or_clean(t, arc_a, arc_b);
+        return legs.end_or_clean(t);
     }
     if all_below(s) {
-        return end_or_clean(sphericalpoint::xyz_neg(t), arc_a, arc_b);
+        return legs.end_or_clean(sphericalpoint::xyz_neg(t));
     }
     Pair::Apart
 }

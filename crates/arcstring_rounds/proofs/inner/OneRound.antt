@@ -22,8 +22,8 @@ positions_open : (ps : List SphericalPoint) → unnecessary_positions ps false �
 unfolding unnecessary_positions
 positions_open ps = append-nil (unnecessary_from ps 1 (length ps - 1))
 
-positions_closed : (ps : List SphericalPoint) (b : Bool) → unnecessary ps 1 ≡ b → unnecessary_positions ps true ≡ unnecessary_from ps 1 (length ps - 1) ++ pick b
-    (1 ∷ []) []
+positions_closed : (ps : List SphericalPoint) (b : Bool) → unnecessary ps 1 ≡ b
+    → unnecessary_positions ps true ≡ unnecessary_from ps 1 (length ps - 1) ++ pick b (1 ∷ []) []
 unfolding unnecessary_positions
 positions_closed ps b h = ap (λ (us : List ℕ). unnecessary_from ps 1 (length ps - 1) ++ us) (one-judged ps 1 b h)
 

@@ -4,26 +4,20 @@ use mathlib.Core.Bool.{Bool}
 use mathlib.Core.List.{List, ◌++◌, map}
 use Prim.Native.Nat.{ℕ, ◌≤◌, ◌<◌}
 use native.Mathlib.Omega.{arith}
-use lib.ListN.{length, take, drop}
+use lib.ListN.{length, take}
 use lib.Seq.{length-take-le, take_at}
 use Rattle.sphericalpoint.specs.declared.SphericalPoint.{SphericalPoint}
-use Rattle.arcstring_check.specs.declared.check.Refusal.{Refusal}
-use Rattle.arcstring_check.specs.declared.check.Written.{Written}
-use Rattle.arcstring_check.specs.declared.check.Written.TheVariants as W
-use Rattle.arcstring_check.specs.Answer.{Answer, answered, refusal_number}
+use Rattle.arcstring_check.specs.Answer.{Answer, refused, answered}
 use Rattle.arcstring.specs.Positions.{Within}
-use Rattle.arcstring.specs.Work.{held}
 use Rattle.arcstring.proofs.Numbered.{within_less}
 use Rattle.arcstring_rounds.specs.Rounds.{unnecessary_positions, remove_all, simplified}
 use Rattle.arcstring_rounds.proofs.inner.Rounds.{round_refuses, as_many_left, fewer_left, few_stay}
 use Rattle.arcstring_rounds.proofs.Simplified.{round_keeps, simplified_keeps}
 
-module _ {A : Type 0} (pt : A → SphericalPoint) (closed : Bool) (m : ℕ) (at next : List A) (left : Written) (whole : Answer (List A))
-    (stands : m ≤ length at) (more : 2 < m)
-    (round : held left next ≡ remove_all (unnecessary_positions (map pt (take m at)) closed) (take m at))
-    (before : simplified pt closed (take m at) ≡ whole) where
+module _ {A : Type 0} (pt : A → SphericalPoint) (closed : Bool) (m : ℕ) (at : List A) (whole : Answer (List A))
+    (stands : m ≤ length at) (more : 2 < m) (before : simplified pt closed (take m at) ≡ whole) where
   abbrev Left : Answer (List A) → Type 0
-  Left a = remove_all (unnecessary_positions (map pt (take m at)) closed) (take m at) ≡ a
+  Left a = a ≡ remove_all (unnecessary_positions (map pt (take m at)) closed) (take m at)
 
   long : length (take m at) ≡ m
   long = length-take-le m at stands
@@ -31,29 +25,21 @@ module _ {A : Type 0} (pt : A → SphericalPoint) (closed : Bool) (m : ℕ) (at 
   many : 2 < length (take m at)
   many = omega (arith, long)
 
-  pub refused_round : (e : Refusal) → left ≡ W.Refused e → held left at ≡ whole
-  refused_round e told =
-      ap (λ (w : Written). held w at) told
-      ∙ sym (round_refuses pt closed (take m at) many (refusal_number e) (sym round ∙ ap (λ (w : Written). held w next) told))
-      ∙ before
+  pub refused_round : (r : ℕ) → Left (refused r) → refused r ≡ whole
+  refused_round r left = sym (round_refuses pt closed (take m at) many r (sym left)) ∙ before
 
-  module _ (kept : ℕ) (told : left ≡ W.Vertices kept) (room : kept ≤ length next) where
-    pub kept_left : Left (answered (take kept next))
-    kept_left = sym round ∙ ap (λ (w : Written). held w next) told
-
+  -- the first `kept` elements of `next` are left
+  module _ (next : List A) (kept : ℕ) (room : kept ≤ length next) (left : Left (answered (take kept next))) where
     pub last_round : kept ≡ m → answered (take m at) ≡ whole
-    last_round h = sym (as_many_left pt closed (take m at) many (take kept next) kept_left (length-take-le kept next room ∙ h ∙ sym long)) ∙ before
+    last_round h = sym (as_many_left pt closed (take m at) many (take kept next) (sym left) (length-take-le kept next room ∙ h ∙ sym long)) ∙ before
 
-    -- the next round's elements are copied to the start of the list
-    module _ (out : List A) (copied : out ≡ take kept next ++ drop kept at) where
-      pub here : take kept out ≡ take kept next
-      here = ap (take kept) copied ∙ take_at (take kept next) (drop kept at) kept (length-take-le kept next room)
+    pub next_round : (kept ≡ m → ⊥) → simplified pt closed (take kept next) ≡ whole
+    next_round h =
+        sym (fewer_left pt closed (take m at) many (take kept next) (sym left) (λ e. h (sym (length-take-le kept next room) ∙ e ∙ long))) ∙ before
 
-      pub next_round : (kept ≡ m → ⊥) → simplified pt closed (take kept out) ≡ whole
-      next_round h =
-          ap (simplified pt closed) here
-          ∙ sym (fewer_left pt closed (take m at) many (take kept next) kept_left (λ e. h (sym (length-take-le kept next room) ∙ e ∙ long)))
-          ∙ before
+-- they are copied to the start of the list
+pub copied_front : {A : Type 0} (kept : ℕ) (next front rest : List A) → kept ≤ length next → front ≡ take kept next → take kept (front ++ rest) ≡ take kept next
+copied_front kept next front rest room copied = take_at front rest kept (ap length copied ∙ length-take-le kept next room) ∙ copied
 
 -- two elements at most are left
 pub no_more_rounds : {A : Type 0} (pt : A → SphericalPoint) (closed : Bool) (m : ℕ) (at : List A) (whole : Answer (List A))

@@ -121,7 +121,8 @@ module _ {A : Type 0} (pt : A → SphericalPoint) where
           (λ z. l (omega (arith, removed_shorter (unnecessary_positions (map pt ps) closed) ps qs e)))))
           ∙ ap (λ (a : Answer (List A)). and_then a (simplified pt closed)) e
 
-      some_positions : (n : ℕ) → remove_all (unnecessary_positions (map pt ps) closed) ps ≡ refused n → length (unnecessary_positions (map pt ps) closed) ≡ 0 → ⊥
+      some_positions : (n : ℕ) → remove_all (unnecessary_positions (map pt ps) closed) ps ≡ refused n
+          → length (unnecessary_positions (map pt ps) closed) ≡ 0 → ⊥
       some_positions n e z = none_refuse (unnecessary_positions (map pt ps) closed) ps n e z
 
       pub round_refuses : (n : ℕ) → remove_all (unnecessary_positions (map pt ps) closed) ps ≡ refused n → simplified pt closed ps ≡ refused n

@@ -10,25 +10,22 @@ use lib.Ieee.{Float}
 use lib.ListN.{length, take, drop}
 use borrow.Author.Tests.{ltb-false}
 use Rattle.sphericalpoint.specs.declared.SphericalPoint.{SphericalPoint}
-use Rattle.arcstring_check.specs.declared.check.Refusal.{Refusal}
 use Rattle.arcstring.specs.declared.inner.vertex.Vertex.{Vertex}
-use Rattle.arcstring_check.specs.Answer.{Answer, refused, answered, number_if, first_of, unless_refused, map_answer, and_then, leaves, refusal_number}
-use Rattle.arcstring.specs.Points.{StringOf, numbered, place_of, points, flat}
+use Rattle.arcstring_check.specs.Answer.{Answer, refused, answered, number_if, first_of, unless_refused, map_answer, leaves}
+use Rattle.arcstring.specs.Points.{StringOf, place_of, points, flat}
 use Rattle.arcstring.specs.Splice.{splice}
 use Rattle.arcstring_check.specs.Check.{room_check, rooms_check, most_points}
 use Rattle.arcstring.proofs.Flat.{take-flat, flat-points, length-points}
 use Rattle.arcstring.proofs.Numbered.{map-take, all_places, all_buoys}
-use Rattle.arcstring.proofs.Splices.{splice-start, splice_front}
-use Rattle.arcstring_split_leg.specs.declared.inner.Cut.{Cut}
-use Rattle.arcstring_split_leg.specs.declared.inner.Cut.TheVariants as C
+use Rattle.arcstring.proofs.Splices.{splice-start}
 use Rattle.arcstring_split_leg.specs.SplitLeg.{unless_uncut, piece_count, of_pieces}
-use Rattle.arcstring_split_leg.specs.Legs.{cut_count}
 use Rattle.arcstring_split_leg.proofs.Uncut.{one_uncut, two_cut}
 use Rattle.arcstring.specs.Written.{points_in}
-use Rattle.arcstring_piece.specs.Pieces.{first_pieces, held_pieces, sum, Stands}
+use Rattle.arcstring_piece.specs.declared.inner.pieces.Pieces.{Pieces}
+use Rattle.arcstring_piece.specs.Pieces.{first_pieces, sum}
+use Rattle.arcstring_piece.specs.Standing.{standing}
 use Rattle.arcstring_piece.proofs.inner.replace.Pieces.{pieces_points}
-use Rattle.arcstring_piece.proofs.inner.replace.CutLists.{count_length, first_length, same_length, enough}
-use Rattle.arcstring_cut.proofs.inner.cut_place.CutPlaces.{counted_stand}
+use Rattle.arcstring_piece.proofs.inner.pieces.CutLists.{vertices_in, count_length, first_length, same_length, enough}
 use Rattle.arcstring.specs.Written.{piece_floats, piece_buoys, piece_counts}
 use Rattle.arcstring_split.specs.Split.{piece_flags, pieces_into}
 use Rattle.arcstring_split.specs.Handed.{flags_of, handed_over}
@@ -72,7 +69,8 @@ module _ (old : List Float) (old_buoys old_counts old_flags : List ℕ) where
 
 -- ---- the rooms of four buffers
 
-rooms_by : (a b c d : Bool) → first_of (first_of (number_if a 7) (number_if b 7)) (first_of (number_if c 7) (number_if d 7)) ≡ number_if (((a || b) || c) || d) 7
+rooms_by : (a b c d : Bool) →
+    first_of (first_of (number_if a 7) (number_if b 7)) (first_of (number_if c 7) (number_if d 7)) ≡ number_if (((a || b) || c) || d) 7
 rooms_by true b c d = refl
 rooms_by false true c d = refl
 rooms_by false false true d = refl
@@ -83,7 +81,7 @@ neither true b h = absurd (true≢false h)
 neither false b h = (refl, h)
 
 -- all four have room
-pub rooms_fit : (j k l m w x y z : ℕ) → ((ltb w j || ltb x k) || ltb y l) || ltb z m ≡ false → (j ≤ w) × (k ≤ x) × (l ≤ y) × (m ≤ z)
+rooms_fit : (j k l m w x y z : ℕ) → ((ltb w j || ltb x k) || ltb y l) || ltb z m ≡ false → (j ≤ w) × (k ≤ x) × (l ≤ y) × (m ≤ z)
 rooms_fit j k l m w x y z h =
     let all = neither ((ltb w j || ltb x k) || ltb y l) (ltb z m) h in
     let three = neither (ltb w j || ltb x k) (ltb y l) all.0 in
@@ -92,106 +90,88 @@ rooms_fit j k l m w x y z h =
 
 -- ---- handed over
 
-module _ (cut : Cut) (work : List Float) (buoys sizes closings : List ℕ) (old : List Float) (old_buoys old_counts old_flags : List ℕ) where
+module _ (p : Pieces) (old : List Float) (old_buoys old_counts old_flags : List ℕ) where
   abbrev into : Option (List (StringOf Vertex)) → Answer (Option (List (StringOf Vertex)))
   into = pieces_into (length old) (length old_buoys) (length old_counts) (length old_flags)
 
   abbrev handed : Answer (Option (List (StringOf Vertex)))
-  handed = handed_over cut work buoys sizes closings (length old) (length old_buoys) (length old_counts) (length old_flags)
+  handed = handed_over p (length old) (length old_buoys) (length old_counts) (length old_flags)
 
-  by_cut : (c : Cut) → cut ≡ c → handed ≡ and_then (held_pieces c work buoys sizes closings) (λ (ss : List (StringOf Vertex)). into (unless_uncut ss))
-  by_cut c told = ap (λ (d : Cut). and_then (held_pieces d work buoys sizes closings) (λ (ss : List (StringOf Vertex)). into (unless_uncut ss))) told
+  pub handed_uncut : p.count < 2 → Splits handed old old_buoys old_counts old_flags (answered none) old old_buoys old_counts old_flags
+  handed_uncut h =
+      let e : unless_uncut (standing p) ≡ none = one_uncut (standing p) (omega (arith, first_length p)) in
+      splits_by old old_buoys old_counts old_flags (answered none) handed (sym (ap into e))
 
-  pub handed_refusal : (e : Refusal) → cut ≡ C.Refused e →
-      Splits handed old old_buoys old_counts old_flags (refused (refusal_number e)) old old_buoys old_counts old_flags
-  handed_refusal e told = splits_by old old_buoys old_counts old_flags (refused (refusal_number e)) handed (sym (by_cut (C.Refused e) told))
+  -- whether one of the buffers is too short
+  abbrev short : ℕ → Bool
+  short total = ((ltb (length old) (3 * total) || ltb (length old_buoys) total) || ltb (length old_counts) p.count) || ltb (length old_flags) p.count
 
-  module _ (m : ℕ) (told : cut ≡ C.Pieces m) (there : Stands (cut_count cut) work buoys sizes closings) where
-    abbrev xs : List Vertex
-    xs = numbered (points work) buoys
+  pub all_fit : (total : ℕ) → short total ≡ false →
+      (3 * total ≤ length old) × (total ≤ length old_buoys) × (p.count ≤ length old_counts) × (p.count ≤ length old_flags)
+  all_fit total h = rooms_fit (3 * total) total p.count p.count (length old) (length old_buoys) (length old_counts) (length old_flags) h
 
-    abbrev ss : List (StringOf Vertex)
-    ss = first_pieces m work buoys sizes closings
+  module _ (two : 2 ≤ p.count) (total : ℕ) (all : total ≡ sum (take p.count p.counts)) where
+    point_total : points_in (standing p) ≡ total
+    unfolding first_pieces
+    point_total = pieces_points (take p.count p.counts) (take p.count p.closed) (vertices_in p) (same_length p) (enough p) ∙ sym all
 
-    pub stand : Stands m work buoys sizes closings
-    stand = counted_stand cut work buoys sizes closings m told there
+    by_rooms : (b : Bool) → short total ≡ b → handed ≡ unless_refused (number_if b 7) (answered (some (standing p)))
+    unfolding room_check rooms_check
+    by_rooms b h =
+        let e : unless_uncut (standing p) ≡ some (standing p) = two_cut (standing p) (omega (arith, first_length p)) in
+        ap into e
+        ∙ (λ i. unless_refused (first_of (rooms_check (point_total i) (length old) (length old_buoys))
+        (first_of (room_check (first_length p i) (length old_counts)) (room_check (first_length p i) (length old_flags)))) (answered (some (standing p))))
+        ∙ ap (λ (n : ℕ). unless_refused n (answered (some (standing p))))
+        (rooms_by (ltb (length old) (3 * total)) (ltb (length old_buoys) total) (ltb (length old_counts) p.count) (ltb (length old_flags) p.count))
+        ∙ ap (λ (t : Bool). unless_refused (number_if t 7) (answered (some (standing p)))) h
 
-    pub handed_uncut : m < 2 → Splits handed old old_buoys old_counts old_flags (answered none) old old_buoys old_counts old_flags
-    handed_uncut h =
-        let e : unless_uncut ss ≡ none = one_uncut ss (omega (arith, first_length work buoys sizes closings m stand)) in
-        splits_by old old_buoys old_counts old_flags (answered none) handed (sym (by_cut (C.Pieces m) told ∙ ap into e))
+    pub handed_no_room : short total ≡ true → Splits handed old old_buoys old_counts old_flags (refused 7) old old_buoys old_counts old_flags
+    handed_no_room h = splits_by old old_buoys old_counts old_flags (refused 7) handed (sym (by_rooms true h))
 
-    module _ (two : 2 ≤ m) (total : ℕ) (all : total ≡ sum (take m sizes)) where
-      -- whether one of the buffers is too short
-      abbrev short : Bool
-      short = ((ltb (length old) (3 * total) || ltb (length old_buoys) total) || ltb (length old_counts) m) || ltb (length old_flags) m
+    -- as many numbers as points
+    as_many : length p.buoys ≡ length (points p.v)
+    as_many = p.stands.buoys_room ∙ sym (length-points most_points p.v p.stands.floats)
 
-      point_total : points_in ss ≡ total
-      unfolding first_pieces
-      point_total =
-          pieces_points (take m sizes) (take m closings) xs (same_length work buoys sizes closings m stand) (enough work buoys sizes closings m stand) ∙ sym all
+    floats_there : take (3 * total) p.v ≡ piece_floats (standing p)
+    unfolding first_pieces
+    floats_there =
+        ap₂ (λ (n : ℕ) (v : List Float). take (3 * n) v) all (sym (flat-points most_points p.v p.stands.floats))
+        ∙ take-flat (sum (take p.count p.counts)) (points p.v)
+        ∙ ap (λ (ps : List SphericalPoint). flat (take (sum (take p.count p.counts)) ps)) (sym (all_places (points p.v) p.buoys as_many))
+        ∙ ap flat (sym (map-take place_of (sum (take p.count p.counts)) (vertices_in p)))
+        ∙ sym (pieces_floats (take p.count p.counts) (take p.count p.closed) (vertices_in p) (same_length p))
 
-      by_rooms : (b : Bool) → short ≡ b → handed ≡ unless_refused (number_if b 7) (answered (some ss))
-      unfolding room_check rooms_check
-      by_rooms b h =
-          let e : unless_uncut ss ≡ some ss = two_cut ss (omega (arith, first_length work buoys sizes closings m stand)) in
-          let size = first_length work buoys sizes closings m stand in
-          by_cut (C.Pieces m) told
-          ∙ ap into e
-          ∙ (λ i. unless_refused (first_of (rooms_check (point_total i) (length old) (length old_buoys))
-          (first_of (room_check (size i) (length old_counts)) (room_check (size i) (length old_flags)))) (answered (some ss)))
-          ∙ ap (λ (n : ℕ). unless_refused n (answered (some ss)))
-          (rooms_by (ltb (length old) (3 * total)) (ltb (length old_buoys) total) (ltb (length old_counts) m) (ltb (length old_flags) m))
-          ∙ ap (λ (t : Bool). unless_refused (number_if t 7) (answered (some ss))) h
+    buoys_there : take total p.buoys ≡ piece_buoys (standing p)
+    unfolding first_pieces
+    buoys_there =
+        ap₂ take all (sym (all_buoys (points p.v) p.buoys as_many))
+        ∙ sym (map-take (λ (x : Vertex). x.buoy) (sum (take p.count p.counts)) (vertices_in p))
+        ∙ sym (pieces_buoys (take p.count p.counts) (take p.count p.closed) (vertices_in p) (same_length p))
 
-      pub handed_no_room : short ≡ true → Splits handed old old_buoys old_counts old_flags (refused 7) old old_buoys old_counts old_flags
-      handed_no_room h = splits_by old old_buoys old_counts old_flags (refused 7) handed (sym (by_rooms true h))
+    counts_there : take p.count p.counts ≡ piece_counts (standing p)
+    unfolding first_pieces
+    counts_there = sym (pieces_counts (take p.count p.counts) (take p.count p.closed) (vertices_in p) (same_length p) (enough p))
 
-      -- as many numbers as points
-      as_many : length buoys ≡ length (points work)
-      as_many = stand.buoys_room ∙ sym (length-points most_points work stand.floats)
+    flags_there : flags_of (take p.count p.closed) ≡ piece_flags (standing p)
+    unfolding first_pieces
+    flags_there = sym (pieces_flags (take p.count p.counts) (take p.count p.closed) (vertices_in p) (same_length p))
 
-      floats_there : take (3 * total) work ≡ piece_floats ss
-      unfolding first_pieces
-      floats_there =
-          ap₂ (λ (n : ℕ) (v : List Float). take (3 * n) v) all (sym (flat-points most_points work stand.floats))
-          ∙ take-flat (sum (take m sizes)) (points work)
-          ∙ ap (λ (ps : List SphericalPoint). flat (take (sum (take m sizes)) ps)) (sym (all_places (points work) buoys as_many))
-          ∙ ap flat (sym (map-take place_of (sum (take m sizes)) xs))
-          ∙ sym (pieces_floats (take m sizes) (take m closings) xs (same_length work buoys sizes closings m stand))
-
-      buoys_there : take total buoys ≡ piece_buoys ss
-      unfolding first_pieces
-      buoys_there =
-          ap₂ take all (sym (all_buoys (points work) buoys as_many))
-          ∙ sym (map-take (λ (x : Vertex). x.buoy) (sum (take m sizes)) xs)
-          ∙ sym (pieces_buoys (take m sizes) (take m closings) xs (same_length work buoys sizes closings m stand))
-
-      counts_there : take m sizes ≡ piece_counts ss
-      unfolding first_pieces
-      counts_there =
-          sym (pieces_counts (take m sizes) (take m closings) xs (same_length work buoys sizes closings m stand) (enough work buoys sizes closings m stand))
-
-      flags_there : flags_of (take m closings) ≡ piece_flags ss
-      unfolding first_pieces
-      flags_there = sym (pieces_flags (take m sizes) (take m closings) xs (same_length work buoys sizes closings m stand))
-
-      pub handed_pieces : (out : List Float) (numbers counts flags : List ℕ) → short ≡ false →
-          out ≡ splice old 0 (take (3 * total) work) → numbers ≡ splice old_buoys 0 (take total buoys) → counts ≡ take m sizes ++ drop m old_counts →
-          flags ≡ splice old_flags 0 (flags_of (take m closings)) →
-          Splits handed old old_buoys old_counts old_flags (answered (some m)) out numbers counts flags
-      handed_pieces out numbers counts flags h o n c f =
-          let by = splits_by old old_buoys old_counts old_flags (answered (some ss)) handed (sym (by_rooms false h)) in (
-            ap (λ (j : ℕ). answered (some j)) (sym (first_length work buoys sizes closings m stand)) ∙ by.0,
+    pub handed_pieces : (out : List Float) (buoys counts flags : List ℕ) → short total ≡ false →
+        out ≡ splice old 0 (take (3 * total) p.v) → buoys ≡ splice old_buoys 0 (take total p.buoys) → counts ≡ splice old_counts 0 (take p.count p.counts) →
+        flags ≡ splice old_flags 0 (flags_of (take p.count p.closed)) →
+        Splits handed old old_buoys old_counts old_flags (answered (some p.count)) out buoys counts flags
+    handed_pieces out buoys counts flags h o n c f =
+        let by = splits_by old old_buoys old_counts old_flags (answered (some (standing p))) handed (sym (by_rooms false h)) in (
+          ap (λ (j : ℕ). answered (some j)) (sym (first_length p)) ∙ by.0,
+          (
+            o ∙ ap (splice old 0) floats_there ∙ splice-start old (piece_floats (standing p)) ∙ by.1.0,
             (
-              o ∙ ap (splice old 0) floats_there ∙ splice-start old (piece_floats ss) ∙ by.1.0,
+              n ∙ ap (splice old_buoys 0) buoys_there ∙ splice-start old_buoys (piece_buoys (standing p)) ∙ by.1.1.0,
               (
-                n ∙ ap (splice old_buoys 0) buoys_there ∙ splice-start old_buoys (piece_buoys ss) ∙ by.1.1.0,
-                (
-                  c ∙ sym (splice_front old_counts m (take m sizes) (count_length work buoys sizes closings m stand))
-                      ∙ ap (splice old_counts 0) counts_there ∙ splice-start old_counts (piece_counts ss) ∙ by.1.1.1.0,
-                  f ∙ ap (splice old_flags 0) flags_there ∙ splice-start old_flags (piece_flags ss) ∙ by.1.1.1.1,
-                ),
+                c ∙ ap (splice old_counts 0) counts_there ∙ splice-start old_counts (piece_counts (standing p)) ∙ by.1.1.1.0,
+                f ∙ ap (splice old_flags 0) flags_there ∙ splice-start old_flags (piece_flags (standing p)) ∙ by.1.1.1.1,
               ),
             ),
-          )
+          ),
+        )

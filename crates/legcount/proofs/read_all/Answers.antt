@@ -1,31 +1,23 @@
--- `read_all` holds what the reads gave, piece after piece, by textform_count's `Pieces`: after a read that gave some bytes there is one piece more. Only
--- after a read that gave none does it call the input whole. Assumes nothing.
-use mathlib.Core.Path.{sym, ◌∙◌}
-use lib.ListN.{length}
-use mir.Syntax.{w64}
-use mir.Val.{SFits}
-use borrow.Author.Rules.{rules}
-use Rattle.textform.proofs.Answers.{at-end, nothing_read, some_read}
-use Rattle.textform_count.proofs.Pieces.{no_pieces, one_more_lem, none_more}
+-- `read_all` holds what the reads gave, piece after piece, by textform_count's `Pieces`: after a read that gave some bytes there is one piece more. Assumes
+-- nothing.
+use native.Mathlib.Omega.{arith}
+use mathlib.Core.Path.{◌∙◌}
+use Rattle.textform.proofs.Pieces.{one_read}
+use Rattle.textform_count.proofs.Pieces.{no_pieces, one_more_lem}
 use Rattle.legcount.proofs.read_all.Goals as goal
 
-pub loop-turns-init : goal.loop-turns-init
-loop-turns-init g c =
-    (no_pieces c.begin-reader.result c.args.a.now c.args.b.now c.begin-reader.ensures.0 c.begin-reader.ensures.1 c.begin-reader.ensures.2 c.begin-reader.ensures.3, c.requires.0, c.requires.1, sym c.buffer-bytes.ensures)
+pub loop-turn-init : goal.loop-turn-init
+loop-turn-init g c =
+    let begun = c.begin-reader.ensures in
+    no_pieces c.begin-reader.result c.args.a.now c.args.b.now begun.0 begun.1 begun.2 begun.3
 
-pub read_some-turn-requires : goal.read_some-turn-requires
-read_some-turn-requires g c = (c.loop-turns.invariant.0.holds.0, c.loop-turns.invariant.1, c.loop-turns.invariant.2)
+pub feed-reader-requires : goal.feed-reader-requires
+feed-reader-requires g c = (c.loop-turn.invariant.holds.0, c.loop-turn.auto.a ∙ c.requires.0, c.loop-turn.auto.b ∙ c.requires.1)
 
-pub returns-then-got-eq0 : goal.returns-then-got-eq0
-returns-then-got-eq0 g c =
-    let fits : SFits w64 c.read_some-turn.result.got = search rules in
-    let none = nothing_read c.read_some-turn.result.got fits (length c.loop-turns.bytes) c.read_some-turn.new.bytes c.if-got-eq0.true in
-    let all = none_more c.loop-turns.reader c.read_some-turn.result.reader c.loop-turns.a c.loop-turns.b _ _ _ c.loop-turns.invariant.0 c.read_some-turn.ensures.0 c.read_some-turn.ensures.1 none in
-    (at-end c.read_some-turn.result.got fits c.if-got-eq0.true, all)
+pub loop-turn-preserved : goal.loop-turn-preserved
+loop-turn-preserved g c =
+    one_more_lem c.loop-turn.reader c.feed-reader.result c.loop-turn.a c.loop-turn.b _ _ _ c.loop-turn.invariant c.feed-reader.ensures.0
+    c.feed-reader.ensures.1 (one_read c.in_ok-n.n c.read.new.buf c.if-n-eq0.false c.in_ok-n.ensures.bound.0 c.if-n-eq0.array_long)
 
-pub loop-turns-preserved : goal.loop-turns-preserved
-loop-turns-preserved g c =
-    let fits : SFits w64 c.read_some-turn.result.got = search rules in
-    let l = c.read_some-turn.auto.bytes ∙ c.loop-turns.invariant.3 in
-    let size = some_read c.read_some-turn.result.got fits (length c.loop-turns.bytes) c.read_some-turn.new.bytes c.if-got-eq0.false c.if-got-lt0.false c.loop-turns.invariant.3 l in
-    (one_more_lem c.loop-turns.reader c.read_some-turn.result.reader c.loop-turns.a c.loop-turns.b _ _ _ c.loop-turns.invariant.0 c.read_some-turn.ensures.0 c.read_some-turn.ensures.1 size, c.read_some-turn.auto.a ∙ c.loop-turns.invariant.1, c.read_some-turn.auto.b ∙ c.loop-turns.invariant.2, l)
+pub returns-then-n-eq0 : goal.returns-then-n-eq0
+returns-then-n-eq0 g c = (c.in_ok-n.ensures.bytes.1 c.if-n-eq0.true (omega arith), c.loop-turn.invariant)

@@ -1,46 +1,30 @@
--- `read_all` holds what the reads gave, piece after piece, by textform_season's `Pieces`: after a read that gave some bytes there is one piece more. Only
--- after a read that gave none does it call the input whole. Assumes nothing.
-use mathlib.Core.Path.{sym, ◌∙◌}
-use lib.ListN.{length}
-use mir.Syntax.{w64}
-use mir.Val.{SFits}
-use borrow.Author.Rules.{rules}
+-- `read_all` holds what the reads gave, piece after piece, by textform_season's `Pieces`: after a read that gave some bytes there is one piece more. Assumes
+-- nothing.
+use native.Mathlib.Omega.{arith}
+use mathlib.Core.Path.{◌∙◌}
 use Rattle.textform.specs.Kept.{keep}
-use Rattle.textform.proofs.Answers.{at-end, nothing_read, some_read}
-use Rattle.textform.proofs.Pieces.{fed_more, fed_none}
+use Rattle.textform.proofs.Pieces.{one_read, fed_more}
 use Rattle.textform_season.specs.Season.{step_with}
 use Rattle.textform_season.specs.Kept.{end_track, kept_start}
 use Rattle.textform_season.proofs.Pieces.{no_pieces}
 use Rattle.season.proofs.read_all.Goals as goal
 
-pub loop-turns-init : goal.loop-turns-init
-loop-turns-init g c = (
-  no_pieces c.begin-reading.result c.args.limit.now c.args.track.now _ c.begin-reading.ensures.0 (c.begin-reading.ensures.1 _ _),
-  c.requires.0,
-  c.requires.1,
-  c.begin-reading.auto.out ∙ c.requires.2,
-  sym c.buffer-bytes.ensures,
+pub loop-turn-init : goal.loop-turn-init
+loop-turn-init g c =
+    no_pieces c.begin-reading.result c.args.limit.now c.args.track.now _ c.begin-reading.ensures.0 (c.begin-reading.ensures.1 _ _)
+
+pub feed-reading-requires : goal.feed-reading-requires
+feed-reading-requires g c = (
+  c.loop-turn.invariant.holds.0,
+  c.loop-turn.auto.limit ∙ c.requires.0,
+  c.loop-turn.auto.track ∙ c.requires.1,
+  c.loop-turn.auto.out ∙ c.begin-reading.auto.out ∙ c.requires.2,
 )
 
-pub read_some-turn-requires : goal.read_some-turn-requires
-read_some-turn-requires g c =
-    (c.loop-turns.invariant.0.holds.0, c.loop-turns.invariant.1, c.loop-turns.invariant.2, c.loop-turns.invariant.3)
+pub loop-turn-preserved : goal.loop-turn-preserved
+loop-turn-preserved g c =
+    fed_more (step_with end_track keep) kept_start _ _ _ c.loop-turn.invariant c.feed-reading.ensures.0 c.feed-reading.ensures.1
+    (one_read c.in_ok-n.n c.read.new.buf c.if-n-eq0.false c.in_ok-n.ensures.bound.0 c.if-n-eq0.array_long)
 
-pub returns-then-got-eq0 : goal.returns-then-got-eq0
-returns-then-got-eq0 g c =
-    let fits : SFits w64 c.read_some-turn.result.got = search rules in
-    let none = nothing_read c.read_some-turn.result.got fits (length c.loop-turns.bytes) c.read_some-turn.new.bytes c.if-got-eq0.true in
-    let all = fed_none (step_with end_track keep) kept_start _ _ _ c.loop-turns.invariant.0 c.read_some-turn.ensures.0 c.read_some-turn.ensures.1 none in
-    (at-end c.read_some-turn.result.got fits c.if-got-eq0.true, all)
-
-pub loop-turns-preserved : goal.loop-turns-preserved
-loop-turns-preserved g c =
-    let fits : SFits w64 c.read_some-turn.result.got = search rules in
-    let l = c.read_some-turn.auto.bytes ∙ c.loop-turns.invariant.4 in
-    let size = some_read c.read_some-turn.result.got fits (length c.loop-turns.bytes) c.read_some-turn.new.bytes c.if-got-eq0.false c.if-got-lt0.false c.loop-turns.invariant.4 l in (
-      fed_more (step_with end_track keep) kept_start _ _ _ c.loop-turns.invariant.0 c.read_some-turn.ensures.0 c.read_some-turn.ensures.1 size,
-      c.read_some-turn.auto.limit ∙ c.loop-turns.invariant.1,
-      c.read_some-turn.auto.track ∙ c.loop-turns.invariant.2,
-      c.read_some-turn.auto.out ∙ c.loop-turns.invariant.3,
-      l,
-    )
+pub returns-then-n-eq0 : goal.returns-then-n-eq0
+returns-then-n-eq0 g c = (c.in_ok-n.ensures.bytes.1 c.if-n-eq0.true (omega arith), c.loop-turn.invariant)

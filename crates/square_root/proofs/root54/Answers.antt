@@ -10,7 +10,8 @@ longer-r14-requires c = step_14 c.requires c.root7-r7.ensures
 
 pub longer-r27-requires : goal.longer-r27-requires
 longer-r27-requires c =
-    let root-14 : WholeRoot (c.args.m / 2 ^ 26) c.longer-r14.result = subst (λ (n : ℕ). WholeRoot n c.longer-r14.result) (digits_28 c.args.m) c.longer-r14.ensures in
+    let root-14 : WholeRoot (c.args.m / 2 ^ 26) c.longer-r14.result =
+    subst (λ (n : ℕ). WholeRoot n c.longer-r14.result) (digits_28 c.args.m) c.longer-r14.ensures in
     step_27 c.requires root-14
 
 pub longer-requires : goal.longer-requires

@@ -14,15 +14,10 @@ use Rattle.square_root.proofs.root_bits.Goals as goal
 pub overflow_sub-z : goal.overflow_sub-z
 overflow_sub-z c = zeros_ge (parts_of c.requires c.significand-m.ensures refl)
 
-pub overflow_cast-f : goal.overflow_cast-f
-overflow_cast-f c =
-    let parts : Parts c.significand-m.result c.place.result = parts_of c.requires c.significand-m.ensures c.place.ensures in
-    omega (arith, shift_le parts)
-
 pub overflow_sub-f : goal.overflow_sub-f
 overflow_sub-f c =
     let parts : Parts c.significand-m.result c.place.result = parts_of c.requires c.significand-m.ensures c.place.ensures in
-    omega (arith, shift_le parts)
+    rw c.from.ensures (omega (arith, shift_le parts))
 
 pub overflow_cast-s : goal.overflow_cast-s
 overflow_cast-s c =
@@ -37,12 +32,12 @@ overflow_shl-s c =
 pub overflow_mul-s : goal.overflow_mul-s
 overflow_mul-s c =
     let parts : Parts c.significand-m.result c.place.result = parts_of c.requires c.significand-m.ensures c.place.ensures in
-    omega (arith, placed_is parts, placed_le parts)
+    rw c.from.ensures (omega (arith, placed_is parts, placed_le parts))
 
 pub root54-r-requires : goal.root54-r-requires
 root54-r-requires c =
     let parts : Parts c.significand-m.result c.place.result = parts_of c.requires c.significand-m.ensures c.place.ensures in
-    omega (arith, placed_is parts, placed_ge parts, placed_le parts)
+    rw c.from.ensures (omega (arith, placed_is parts, placed_ge parts, placed_le parts))
 
 pub overflow_sub-result : goal.overflow_sub-result
 overflow_sub-result c =
@@ -52,13 +47,16 @@ overflow_sub-result c =
 pub overflow_add-result : goal.overflow_add-result
 overflow_add-result c =
     let parts : Parts c.significand-m.result c.place.result = parts_of c.requires c.significand-m.ensures c.place.ensures in
-    let whole : WholeRoot (placed c.significand-m.result c.place.result * 2 ^ 54) c.root54-r.result = subst (λ (n : ℕ). WholeRoot (n * 2 ^ 54) c.root54-r.result) (placed_is parts) c.root54-r.ensures in
+    let whole : WholeRoot (placed c.significand-m.result c.place.result * 2 ^ 54) c.root54-r.result =
+    subst (λ (n : ℕ). WholeRoot (n * 2 ^ 54) c.root54-r.result) (placed_is parts) (rw c.from.ensures at c.root54-r.ensures) in
     omega (arith, root54_lt parts whole)
 
 pub returns : goal.returns
 returns c =
     let parts : Parts c.significand-m.result c.place.result = parts_of c.requires c.significand-m.ensures c.place.ensures in
-    let whole : WholeRoot (placed c.significand-m.result c.place.result * 2 ^ 54) c.root54-r.result = subst (λ (n : ℕ). WholeRoot (n * 2 ^ 54) c.root54-r.result) (placed_is parts) c.root54-r.ensures in (
+    let whole : WholeRoot (placed c.significand-m.result c.place.result * 2 ^ 54) c.root54-r.result =
+    subst (λ (n : ℕ). WholeRoot (n * 2 ^ 54) c.root54-r.result) (placed_is parts) (rw c.from.ensures at c.root54-r.ensures) in
+    rw c.from.ensures (
       pattern_lt parts whole,
       pattern_is parts whole
           ∙ ap (λ (m : ℕ). sqrt_of (odd 53 false m c.place.result 1074)) c.significand-m.ensures

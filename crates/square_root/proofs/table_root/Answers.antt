@@ -1,10 +1,6 @@
 -- `table_root` meets its contract: its table is the one that `table_rule` reads, and the rule holds at each entry. Assumes nothing.
 use mathlib.Core.List.{List, [], ◌∷◌}
 use Prim.Native.Nat.{ℕ}
-use native.Mathlib.Nat.{lt_of_lt_of_le}
-use native.Mathlib.Omega.{arith}
-use lib.Dec.{lit≤}
-use Rattle.square_root.proofs.WholeRoots.{root_lt}
 use Rattle.square_root.proofs.TableRule.{table_rule}
 use Rattle.square_root.proofs.table_root.Goals as goal
 
@@ -25,7 +21,4 @@ roots =
     ∷ []
 
 pub returns : goal.returns
-returns c = table_rule roots tt c.args.n c.requires.0 c.requires.1
-
-pub overflow_cast-result : goal.overflow_cast-result
-overflow_cast-result c = record { fits = lt_of_lt_of_le (root_lt 128 (table_rule roots tt c.args.n c.requires.0 c.requires.1) (omega arith)) (lit≤ tt) }
+returns c = rw c.from.ensures (table_rule roots tt c.args.n c.requires.0 c.requires.1)

@@ -1,4 +1,3 @@
--- The laws of printing: bytes written one after the other, the decimal digits of a number, the whole text.
-mod Texts
+-- The laws of printing: the decimal digits of a number, the whole text.
 pub mod Decimals
 pub mod Printed

@@ -6,8 +6,9 @@ ghost use Rattle.std.specs.Float.Ieee.{of_bits};
 ghost use Rattle.textform.specs.Text.{row_last, malformed_place, float_part, row_part, part_at, place_after, hex_digit, start, with_float, State, step_at};
 ghost use Rattle.textform.specs.Text.{step_with, fed_with};
 ghost use Rattle.textform.specs.Text as Text;
-ghost use Rattle.textform.specs.Kept.{floats_kept, digit_value, in_place, held_state, digits_before, Sound, Becomes};
+ghost use Rattle.textform.specs.Kept.{floats_kept, in_place, held_state, digits_before, Sound, Becomes};
 ghost use Rattle.textform.specs.Kept as Kept;
+ghost use Rattle.arcstring_check.specs.Answer.{option_of};
 
 // The place of a row's first byte, and so how long the names line is.
 pub const ROW_START: usize = 13;
@@ -50,13 +51,6 @@ pub enum Part {
     Digit,
     LastDigit,
     Nothing,
-}
-
-// The value of a hexadecimal digit.
-#[derive(Clone, Copy)]
-pub enum Digit {
-    Value(u8),
-    None,
 }
 
 // Where the reading stands: the place of the next byte, whether its row is B's, the digits of its float so far, and how many
@@ -136,22 +130,14 @@ fn place_after(place: usize) -> usize
 }
 
 // 0 to 9 and A to F.
-pub fn hex_digit(byte: u8) -> Digit
-    ensures { digit_value result ≡ hex_digit byte }
+pub fn hex_digit(byte: u8) -> Option<u8>
+    ensures { option_of result ≡ hex_digit byte }
 {
-    if byte < b'0' {
-        return Digit::None;
+    match byte {
+        b'0'..=b'9' => Some(byte - b'0'),
+        b'A'..=b'F' => Some(byte - b'A' + 10),
+        _ => None,
     }
-    if byte < b'9' + 1 {
-        return Digit::Value(byte - b'0');
-    }
-    if byte < b'A' {
-        return Digit::None;
-    }
-    if byte < b'F' + 1 {
-        return Digit::Value(byte - b'A' + 10);
-    }
-    Digit::None
 }
 
 // The float of 64 bits, and 2 where they are a NaN's: both are out of range.
@@ -183,24 +169,20 @@ fn with_float(r: Reader, word: u64, a: &mut [f64], b: &mut [f64]) -> Reader
     ensures { Sound result × (held_state result a.new b.new
         ≡ with_float Kept.keep (of_bits binary64 word) (held_state r a.old b.old)) }
 {
-    let place = place_after(r.place);
+    let r = Reader {
+        place: place_after(r.place),
+        word: 0,
+        ..r
+    };
     if r.second {
-        let n = keep(b, r.b, word);
         return Reader {
-            place,
-            second: true,
-            word: 0,
-            a: r.a,
-            b: n,
+            b: keep(b, r.b, word),
+            ..r
         };
     }
-    let n = keep(a, r.a, word);
     Reader {
-        place,
-        second: false,
-        word: 0,
-        a: n,
-        b: r.b,
+        a: keep(a, r.a, word),
+        ..r
     }
 }
 
@@ -211,10 +193,8 @@ pub fn malformed(r: Reader) -> Reader
 {
     Reader {
         place: MALFORMED,
-        second: r.second,
         word: 0,
-        a: r.a,
-        b: r.b,
+        ..r
     }
 }
 
@@ -227,8 +207,7 @@ fn onward(r: Reader, second: bool, word: u64) -> Reader
         place: place_after(r.place),
         second,
         word,
-        a: r.a,
-        b: r.b,
+        ..r
     }
 }
 
@@ -241,8 +220,7 @@ pub fn in_row(r: Reader, second: bool) -> Reader
         place: PAST_NAME,
         second,
         word: 0,
-        a: r.a,
-        b: r.b,
+        ..r
     }
 }
 
@@ -251,20 +229,7 @@ pub fn without_second(r: Reader) -> Reader
     requires { Sound r }
     ensures { Becomes r Text.without_second result }
 {
-    Reader {
-        place: r.place,
-        second: r.second,
-        word: r.word,
-        a: r.a,
-        b: 0,
-    }
-}
-
-// A digit's value as a number of 64 bits.
-pub fn wide(x: u8) -> u64
-    ensures { result ≡ x }
-{
-    x as u64
+    Reader { b: 0, ..r }
 }
 
 // A byte where this one has to stand.
@@ -297,11 +262,10 @@ fn take_digit(r: Reader, byte: u8) -> Reader
     requires { Sound r × (part_at r.place ≡ Part.Digit) }
     ensures { Becomes r (λ (s : State). step_at Kept.keep Part.Digit s byte) result }
 {
-    let digit = hex_digit(byte);
-    let Digit::Value(d) = digit else {
-        return malformed(r);
-    };
-    onward(r, r.second, 16 * r.word + wide(d))
+    match hex_digit(byte) {
+        Some(d) => onward(r, r.second, 16 * r.word + u64::from(d)),
+        None => malformed(r),
+    }
 }
 
 // A byte where the last digit of a float has to stand.
@@ -310,11 +274,10 @@ fn take_last_digit(r: Reader, byte: u8, a: &mut [f64], b: &mut [f64]) -> Reader
     ensures { Sound result × (held_state result a.new b.new
         ≡ step_at Kept.keep Part.LastDigit (held_state r a.old b.old) byte) }
 {
-    let digit = hex_digit(byte);
-    let Digit::Value(d) = digit else {
-        return malformed(r);
-    };
-    with_float(r, 16 * r.word + wide(d), a, b)
+    match hex_digit(byte) {
+        Some(d) => with_float(r, 16 * r.word + u64::from(d), a, b),
+        None => malformed(r),
+    }
 }
 
 // One byte, by the part that stands at its place.
@@ -323,8 +286,7 @@ pub fn step(r: Reader, byte: u8, a: &mut [f64], b: &mut [f64]) -> Reader
     ensures { Sound result × (held_state result a.new b.new
         ≡ step_with Kept.keep (held_state r a.old b.old) byte) }
 {
-    let part = part_at(r.place);
-    match part {
+    match part_at(r.place) {
         Part::Exactly(c) => take_exactly(r, byte, c),
         Part::Name => take_name(r, byte),
         Part::Digit => take_digit(r, byte),
@@ -340,10 +302,8 @@ pub fn feed(r: Reader, bytes: &[u8], a: &mut [f64], b: &mut [f64]) -> Reader
         ≡ fed_with Kept.keep (held_state r a.old b.old) bytes.now) }
 {
     let mut reader = r;
-    let mut i = 0;
-    while i < bytes.len() {
-        reader = step(reader, bytes[i], a, b);
-        i += 1;
+    for byte in bytes {
+        reader = step(reader, *byte, a, b);
     }
     reader
 }

@@ -1,48 +1,27 @@
 // The counts of two strings in the text form: what the counting program prints for what it reads.
 ghost use Rattle.std.specs.Prelude.{◌≡◌, ◌≤◌, length, take};
-ghost use Rattle.arcstring_check.specs.Answer.{leaves};
-ghost use Rattle.arcstring_build.specs.Build.{built_answer, built_result};
-ghost use Rattle.arcstring_listing.specs.Listing.{counted_answer};
+ghost use Rattle.arcstring_check.specs.Answer.{leaves, answer_of};
+ghost use Rattle.arcstring_build.specs.Build.{built_result};
 ghost use Rattle.arcstring_check.specs.Check.{most_floats};
 ghost use Rattle.textform.specs.Kept.{floats_kept, held_state, Sound};
 ghost use Rattle.textform.specs.Print.{print_room};
 ghost use Rattle.textform_count.specs.Plain.{plain_build, plain_floats};
 ghost use Rattle.textform_count.specs.Print.{printed};
-ghost use Rattle.textform_count.specs.Count.{count_built, count_state, conclusion_answer, output};
+ghost use Rattle.textform_count.specs.Count.{count_built, count_state, output};
 
 use crate::inner::print::print_counts;
 use arcstring_build::build;
-use arcstring_build::build::Built;
-use arcstring_check::check;
-use arcstring_check::check::{MOST_FLOATS, MOST_POINTS};
+use arcstring_check::check::{MOST_FLOATS, MOST_POINTS, Refusal};
 use arcstring_listing::listing;
-use arcstring_listing::listing::Counted;
 use arcstring_tally::counts::Counts;
 use textform::inner::print::print_refusal;
 use textform::inner::read;
 use textform::inner::read::Reader;
 
-// Counts, or the number of a refusal.
-#[derive(Clone, Copy)]
-pub enum Conclusion {
-    Counts(Counts),
-    Refused(u32),
-}
-
-// What the counting call answers, with its refusal as a number.
-fn conclusion_of(counted: Counted) -> Conclusion
-    ensures { conclusion_answer result ≡ counted_answer counted }
-{
-    match counted {
-        Counted::Counts(c) => Conclusion::Counts(c),
-        Counted::Refused(e) => Conclusion::Refused(check::number(e)),
-    }
-}
-
 // The string that points make, without buoys: every number is 0, and those of the vertices are not looked at.
-pub fn build_plain(v: &[f64], out: &mut [f64]) -> Built
+pub fn build_plain(v: &[f64], out: &mut [f64]) -> Result<(usize, bool), Refusal>
     requires { (length v.now ≤ floats_kept) × (length out.old ≡ most_floats) }
-    ensures result_value { built_answer result ≡ built_result (plain_build v.now) }
+    ensures result_value { answer_of result ≡ built_result (plain_build v.now) }
     ensures out_after { out.new ≡ leaves (plain_floats (plain_build v.now)) out.old }
 {
     let none = [0; read::POINTS_KEPT];
@@ -52,33 +31,15 @@ pub fn build_plain(v: &[f64], out: &mut [f64]) -> Built
 }
 
 // Two lists of points built, the first first, and the pairs of their legs counted with no margin. What is built is never refused there.
-pub fn count_built(a: &[f64], b: &[f64]) -> Conclusion
+pub fn count_built(a: &[f64], b: &[f64]) -> Result<Counts, Refusal>
     requires { (length a.now ≤ floats_kept) × (length b.now ≤ floats_kept) }
-    ensures { conclusion_answer result ≡ count_built a.now b.now }
+    ensures { answer_of result ≡ count_built a.now b.now }
 {
     let mut first = [0.0; MOST_FLOATS];
     let mut second = [0.0; MOST_FLOATS];
-    let built = build_plain(a, &mut first);
-    match built {
-        Built::Refused(e) => Conclusion::Refused(check::number(e)),
-        Built::String(n, closed) => {
-            let other = build_plain(b, &mut second);
-            match other {
-                Built::Refused(e) => Conclusion::Refused(check::number(e)),
-                Built::String(m, other_closed) => {
-                    let n_end = 3 * n;
-                    let m_end = 3 * m;
-                    conclusion_of(listing::count(
-                        &first[..n_end],
-                        closed,
-                        &second[..m_end],
-                        other_closed,
-                        0.0,
-                    ))
-                }
-            }
-        }
-    }
+    let (n, closed) = build_plain(a, &mut first)?;
+    let (m, other_closed) = build_plain(b, &mut second)?;
+    listing::count(&first[..3 * n], closed, &second[..3 * m], other_closed, 0.0)
 }
 
 // What is printed once the input has ended: how many bytes of `out`.
@@ -89,12 +50,9 @@ pub fn conclude(r: Reader, a: &[f64], b: &[f64], out: &mut [u8]) -> usize
     if r.place != read::ROW_START {
         return print_refusal(8, out);
     }
-    let a_end = r.a;
-    let b_end = r.b;
-    let conclusion = count_built(&a[..a_end], &b[..b_end]);
-    match conclusion {
-        Conclusion::Refused(n) => print_refusal(n, out),
-        Conclusion::Counts(c) => print_counts(c, out),
+    match count_built(&a[..r.a], &b[..r.b]) {
+        Err(e) => print_refusal(u32::from(e), out),
+        Ok(c) => print_counts(c, out),
     }
 }
 

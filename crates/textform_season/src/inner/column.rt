@@ -3,9 +3,10 @@ ghost use Rattle.std.specs.Prelude.{◌≡◌, ◌≤◌};
 ghost use Rattle.textform.specs.Text.{hex_digit};
 ghost use Rattle.textform_report.specs.Permille.{most_tracks};
 ghost use Rattle.textform_season.specs.Season.{with_digit, digit_after, column_after};
-ghost use Rattle.textform_season.specs.Kept.{next_column, ColumnSound, NextSound};
+ghost use Rattle.textform_season.specs.Kept.{ColumnSound, NextSound};
+ghost use Rattle.arcstring_check.specs.Answer.{option_of};
 
-use textform::inner::read::{Digit, hex_digit, wide};
+use textform::inner::read::hex_digit;
 
 // The most tracks of a season.
 const MOST_TRACKS: u64 = 1000;
@@ -18,56 +19,45 @@ pub enum Column {
     Number(u64),
 }
 
-// What stands there after one byte more, if it may stand there.
-#[derive(Clone, Copy)]
-pub(crate) enum Next {
-    Column(Column),
-    None,
-}
-
 // One digit more of a number, n so far and 0 before the first.
-fn with_digit(n: u64, d: u8) -> Next
+fn with_digit(n: u64, d: u8) -> Option<Column>
     requires { n ≤ most_tracks }
-    ensures { (next_column result ≡ with_digit n d) × NextSound result }
+    ensures { (option_of result ≡ with_digit n d) × NextSound result }
 {
     if d >= 10 {
-        return Next::None;
+        return None;
     }
-    let number = 10 * n + wide(d);
+    let number = 10 * n + u64::from(d);
     if number == 0 {
-        return Next::None;
+        return None;
     }
     if number > MOST_TRACKS {
-        return Next::None;
+        return None;
     }
-    Next::Column(Column::Number(number))
+    Some(Column::Number(number))
 }
 
 // One byte more of a number.
-fn digit_after(n: u64, byte: u8) -> Next
+fn digit_after(n: u64, byte: u8) -> Option<Column>
     requires { n ≤ most_tracks }
-    ensures { (next_column result ≡ digit_after n (hex_digit byte)) × NextSound result }
+    ensures { (option_of result ≡ digit_after n (hex_digit byte)) × NextSound result }
 {
-    let digit = hex_digit(byte);
-    match digit {
-        Digit::Value(d) => with_digit(n, d),
-        Digit::None => Next::None,
-    }
+    with_digit(n, hex_digit(byte)?)
 }
 
 // One byte more, other than a blank.
-pub(crate) fn column_after(column: Column, byte: u8) -> Next
+pub(crate) fn column_after(column: Column, byte: u8) -> Option<Column>
     requires { ColumnSound column }
-    ensures { (next_column result ≡ column_after column byte) × NextSound result }
+    ensures { (option_of result ≡ column_after column byte) × NextSound result }
 {
     match column {
         Column::Empty => {
             if byte == b'L' {
-                return Next::Column(Column::Limit);
+                return Some(Column::Limit);
             }
             digit_after(0, byte)
         }
-        Column::Limit => Next::None,
+        Column::Limit => None,
         Column::Number(n) => digit_after(n, byte),
     }
 }

@@ -7,8 +7,9 @@ ghost use Rattle.textform_report.specs.Permille.{most_tracks};
 ghost use Rattle.textform_season.specs.Season as Season;
 ghost use Rattle.textform_season.specs.Kept.{report_room, end_track, held_tracks, TracksSound, held_season, SeasonSound, Becomes, kept_start, kept_fed};
 
-use crate::inner::column::{Column, Next, column_after};
-use crate::inner::track::{Tracks, end_track, no_tracks};
+use crate::inner::column::{Column, column_after};
+use crate::inner::track::{Lines, end_track, no_tracks};
+use arcstring_check::check::Refusal;
 use textform::inner::read;
 use textform::inner::read::Reader;
 
@@ -19,7 +20,7 @@ pub struct Reading {
     pub row: Reader,
     pub column: Column,
     pub last: u64,
-    pub tracks: Tracks,
+    pub tracks: Result<Lines, Refusal>,
 }
 
 // Before the first byte.
@@ -40,12 +41,10 @@ fn malformed(r: Reading) -> Reading
     requires { SeasonSound r }
     ensures { Becomes r Season.malformed result }
 {
-    let tracks = r.tracks;
     Reading {
         row: read::malformed(r.row),
         column: Column::Empty,
-        last: r.last,
-        tracks,
+        ..r
     }
 }
 
@@ -54,18 +53,9 @@ fn in_column(r: Reading, byte: u8) -> Reading
     requires { SeasonSound r }
     ensures { Becomes r (Season.in_column (Season.column_after r.column byte)) result }
 {
-    let row = r.row;
-    let column = r.column;
-    let tracks = r.tracks;
-    let next = column_after(column, byte);
-    match next {
-        Next::None => malformed(r),
-        Next::Column(longer) => Reading {
-            row,
-            column: longer,
-            last: r.last,
-            tracks,
-        },
+    match column_after(r.column, byte) {
+        None => malformed(r),
+        Some(column) => Reading { column, ..r },
     }
 }
 
@@ -74,12 +64,10 @@ fn on_in_row(r: Reading, second: bool) -> Reading
     requires { SeasonSound r }
     ensures { Becomes r (Season.on_in_row second) result }
 {
-    let tracks = r.tracks;
     Reading {
         row: read::in_row(r.row, second),
         column: Column::Empty,
-        last: r.last,
-        tracks,
+        ..r
     }
 }
 
@@ -95,24 +83,20 @@ fn limit_row(r: Reading) -> Reading
 }
 
 // All tracks: the last one too, where there is one.
-pub(crate) fn all_done(r: Reading, limit: &[f64], track: &[f64], out: &mut [u8]) -> Tracks
+pub(crate) fn all_done(
+    r: Reading,
+    limit: &[f64],
+    track: &[f64],
+    out: &mut [u8],
+) -> Result<Lines, Refusal>
     requires { SeasonSound r × (length limit.now ≡ floats_kept) × (length track.now ≡ floats_kept) × (length out.old ≡ report_room) }
     ensures out_after { held_tracks result out.new ≡ Season.all_done end_track (held_season r limit.now track.now out.old) }
     ensures tracks_sound { TracksSound result r.last }
 {
-    let tracks = r.tracks;
     if r.last == 0 {
-        return tracks;
+        return r.tracks;
     }
-    let limit_end = r.row.a;
-    let track_end = r.row.b;
-    end_track(
-        tracks,
-        r.last,
-        &limit[..limit_end],
-        &track[..track_end],
-        out,
-    )
+    end_track(r.tracks, r.last, &limit[..r.row.a], &track[..r.row.b], out)
 }
 
 // The next track begins.
@@ -122,12 +106,11 @@ fn next_track(r: Reading, limit: &[f64], track: &[f64], out: &mut [u8]) -> Readi
     ensures { SeasonSound result × (held_season result limit.now track.now out.new
         ≡ Season.next_track end_track (held_season r limit.now track.now out.old)) }
 {
-    let tracks = all_done(r, limit, track, out);
     Reading {
         row: read::without_second(r.row),
         column: Column::Empty,
         last: r.last + 1,
-        tracks,
+        tracks: all_done(r, limit, track, out),
     }
 }
 
@@ -152,8 +135,7 @@ fn row_of(r: Reading, limit: &[f64], track: &[f64], out: &mut [u8]) -> Reading
     ensures { SeasonSound result × (held_season result limit.now track.now out.new
         ≡ Season.row_of end_track r.column (held_season r limit.now track.now out.old)) }
 {
-    let column = r.column;
-    match column {
+    match r.column {
         Column::Empty => malformed(r),
         Column::Limit => limit_row(r),
         Column::Number(n) => track_row(r, n, limit, track, out),
@@ -166,13 +148,9 @@ fn in_text(r: Reading, byte: u8, limit: &mut [f64], track: &mut [f64]) -> Readin
     ensures { SeasonSound result × ((out : List ℕ) → held_season result limit.new track.new out
         ≡ Season.in_text Text.keep (held_season r limit.old track.old out) byte) }
 {
-    let column = r.column;
-    let tracks = r.tracks;
     Reading {
         row: read::step(r.row, byte, limit, track),
-        column,
-        last: r.last,
-        tracks,
+        ..r
     }
 }
 
@@ -204,10 +182,8 @@ pub fn feed(
         ≡ kept_fed (held_season r limit.old track.old out.old) bytes.now) }
 {
     let mut reading = r;
-    let mut i = 0;
-    while i < bytes.len() {
-        reading = step(reading, bytes[i], limit, track, out);
-        i += 1;
+    for byte in bytes {
+        reading = step(reading, *byte, limit, track, out);
     }
     reading
 }

@@ -10,30 +10,24 @@ ghost use Rattle.textform_season.specs.Kept.{report_room, end_track, held_tracks
 
 use crate::inner::column::Column;
 use crate::inner::read::{Reading, all_done, begin, feed};
-use crate::inner::track::Tracks;
-use arcstring_build::build::Built;
-use arcstring_check::check;
-use arcstring_check::check::MOST_FLOATS;
+use crate::inner::track::Lines;
+use arcstring_check::check::{MOST_FLOATS, Refusal};
 use textform::inner::print::print_refusal;
 use textform::inner::read;
 use textform_count::inner::count::build_plain;
 use textform_report::inner::lines::put_all;
 
-// Zeros, for the longest report. The `ensures` gives only the length, which lending the array as a slice needs.
-pub fn report_buffer() -> [u8; 131072]
-    ensures { report_room ≡ length result }
-{
-    [0; 131072]
-}
+// Room for the longest report: a heading of 39 bytes, and at most 126 for each of 1,001 lines.
+pub const REPORT_ROOM: usize = 131072;
 
 // What is printed of the tracks: how many bytes of `out`.
-fn print_tracks(tracks: Tracks, out: &mut [u8]) -> usize
+fn print_tracks(tracks: Result<Lines, Refusal>, out: &mut [u8]) -> usize
     requires { TracksSound tracks most_tracks × (length out.old ≡ report_room) }
     ensures { (take result out.new ≡ printed_report (held_tracks tracks out.old)) × (result ≤ report_room) }
 {
     match tracks {
-        Tracks::Counted(lines) => put_all(out, lines.at, lines.sums),
-        Tracks::Refused(e) => print_refusal(e, out),
+        Ok(lines) => put_all(out, lines.at, lines.sums),
+        Err(e) => print_refusal(u32::from(e), out),
     }
 }
 
@@ -45,12 +39,10 @@ fn print_season(r: Reading, limit: &[f64], track: &[f64], out: &mut [u8]) -> usi
         printed_report (unless_refused (build_check s.text.a) (all_done end_track s))) }
     ensures upper_bound { result ≤ report_room }
 {
-    let limit_end = r.row.a;
     let mut vertices = [0.0; MOST_FLOATS];
-    let built = build_plain(&limit[..limit_end], &mut vertices);
-    match built {
-        Built::Refused(e) => print_refusal(check::number(e), out),
-        Built::String(_, _) => print_tracks(all_done(r, limit, track, out), out),
+    match build_plain(&limit[..r.row.a], &mut vertices) {
+        Err(e) => print_refusal(u32::from(e), out),
+        Ok(_) => print_tracks(all_done(r, limit, track, out), out),
     }
 }
 
@@ -63,11 +55,9 @@ pub fn conclude(r: Reading, limit: &[f64], track: &[f64], out: &mut [u8]) -> usi
     if r.row.place != read::ROW_START {
         return print_refusal(8, out);
     }
-    let column = r.column;
-    match column {
+    match r.column {
         Column::Empty => print_season(r, limit, track, out),
-        Column::Limit => print_refusal(8, out),
-        Column::Number(_) => print_refusal(8, out),
+        Column::Limit | Column::Number(_) => print_refusal(8, out),
     }
 }
 

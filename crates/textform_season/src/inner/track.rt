@@ -8,8 +8,9 @@ ghost use Rattle.textform_report.specs.Report.{report_for, with_track};
 ghost use Rattle.same_crossings.specs.CountLaws.{sum_of_counts};
 ghost use Rattle.textform_season.specs.Kept.{report_room, end_track, held_tracks, held_lines, TracksSound, LinesSound};
 
+use arcstring_check::check::Refusal;
 use arcstring_tally::counts::Counts;
-use textform_count::inner::count::{Conclusion, count_built};
+use textform_count::inner::count::count_built;
 use textform_report::inner::lines::{add_counts, put_heading, put_track};
 
 // Where the lines end, and the sums of their counts.
@@ -19,19 +20,12 @@ pub struct Lines {
     pub sums: Counts,
 }
 
-// The tracks that have ended: counted; or the number of the first refusal among them.
-#[derive(Clone, Copy)]
-pub enum Tracks {
-    Counted(Lines),
-    Refused(u32),
-}
-
 // No track yet: the heading alone.
-pub(crate) fn no_tracks(out: &mut [u8]) -> Tracks
+pub(crate) fn no_tracks(out: &mut [u8]) -> Result<Lines, Refusal>
     requires { length out.old ≡ report_room }
     ensures { (held_tracks result out.new ≡ answered (report_for [])) × TracksSound result 0 }
 {
-    Tracks::Counted(Lines {
+    Ok(Lines {
         at: put_heading(out),
         sums: Counts {
             clean: 0,
@@ -54,36 +48,36 @@ fn with_track(lines: Lines, n: u64, c: Counts, out: &mut [u8]) -> Lines
 }
 
 // Track n, counted after the tracks before it.
-fn count_track(lines: Lines, n: u64, limit: &[f64], track: &[f64], out: &mut [u8]) -> Tracks
+fn count_track(
+    lines: Lines,
+    n: u64,
+    limit: &[f64],
+    track: &[f64],
+    out: &mut [u8],
+) -> Result<Lines, Refusal>
     requires le_n { (1 ≤ n) × (n ≤ most_tracks) × LinesSound lines (n - 1) × (length out.old ≡ report_room) }
     requires limit_len_bound { (length limit.now ≤ floats_kept) × (length track.now ≤ floats_kept) }
     ensures out_after { held_tracks result out.new
         ≡ end_track limit.now track.now n (answered (held_lines lines out.old)) }
     ensures tracks_sound { TracksSound result n }
 {
-    let conclusion = count_built(track, limit);
-    match conclusion {
-        Conclusion::Counts(c) => Tracks::Counted(with_track(lines, n, c, out)),
-        Conclusion::Refused(e) => Tracks::Refused(e),
-    }
+    let counts = count_built(track, limit)?;
+    Ok(with_track(lines, n, counts, out))
 }
 
 // Track n has ended, the tracks before it as they are.
 pub(crate) fn end_track(
-    tracks: Tracks,
+    tracks: Result<Lines, Refusal>,
     n: u64,
     limit: &[f64],
     track: &[f64],
     out: &mut [u8],
-) -> Tracks
+) -> Result<Lines, Refusal>
     requires le_n { (1 ≤ n) × (n ≤ most_tracks) × TracksSound tracks (n - 1) × (length out.old ≡ report_room) }
     requires limit_len_bound { (length limit.now ≤ floats_kept) × (length track.now ≤ floats_kept) }
     ensures out_after { held_tracks result out.new
         ≡ end_track limit.now track.now n (held_tracks tracks out.old) }
     ensures tracks_sound { TracksSound result n }
 {
-    match tracks {
-        Tracks::Counted(lines) => count_track(lines, n, limit, track, out),
-        Tracks::Refused(e) => Tracks::Refused(e),
-    }
+    count_track(tracks?, n, limit, track, out)
 }

@@ -1,26 +1,18 @@
--- Each vertex along a string. The loop's invariant: what is left of the vertices at each step decides for all. Assumes nothing.
-use mathlib.Core.Path.{refl, ◌∙◌}
-use Prim.Native.Nat.{◌-◌}
+-- Each vertex along a string, by position. Assumes nothing.
+use mathlib.Core.Path.{refl}
+use mathlib.Core.Bool.{true, false}
 use native.Mathlib.Omega.{arith}
-use Rattle.arcstring_check.proofs.Checks.{stored_whole}
-use Rattle.arcstring_against.proofs.Against.{along_stop, along_go, along_end}
+use Rattle.std.proofs.Common.{rules}
+use borrow.Author.Tests.{tests}
+use Rattle.std.proofs.lemmas.Iterator.{YieldsList-from_range, cases_from_all}
+use Rattle.arcstring_along.specs.OnString.{string_of}
+use Rattle.arcstring_along.proofs.ByPosition.{all_in_range}
+use Rattle.arcstring_against.proofs.Against.{VertexTold, all_by_vertex}
 use Rattle.arcstring_against.proofs.inner.all_along.Goals as goal
 
-pub loop-k-init : goal.loop-k-init
-loop-k-init c = refl
-
-pub vertex_at-requires : goal.vertex_at-requires
-vertex_at-requires c = omega (arith, (stored_whole _ c.requires.0).triples)
-
-pub returns-then-not-along_string : goal.returns-then-not-along_string
-returns-then-not-along_string c =
-    along_stop _ c.args.a.now _ (stored_whole _ c.requires.0).triples _ _ _ c.loop-k-test.true
-    c.vertex_at.ensures c.along_string.ensures c.if-not-along_string.true ∙ c.loop-k.invariant
-
-pub loop-k-preserved : goal.loop-k-preserved
-loop-k-preserved c =
-    along_go _ c.args.a.now _ (stored_whole _ c.requires.0).triples _ _ _ c.loop-k-test.true
-    c.vertex_at.ensures c.along_string.ensures c.if-not-along_string.false ∙ c.loop-k.invariant
-
 pub returns : goal.returns
-returns c = along_end _ c.args.a.now _ (stored_whole _ c.requires.0).triples _ c.loop-k-test.false ∙ c.loop-k.invariant
+returns c =
+    all_by_vertex c.args.a _ _
+    (all_in_range _ _ _ _
+    (cases_from_all _ _ _ (VertexTold c.args.a (string_of c.args.s) true) (VertexTold c.args.a (string_of c.args.s) false) c.all.ensures.ran
+    (YieldsList-from_range 0 c.args.a.n c.args.a.n refl (omega arith)) (λ x q k. search (rules, tests)) (λ x q k. search (rules, tests))))

@@ -1,36 +1,31 @@
 -- `point_is_along_arcstring` refuses as its checks do, and else answers whether the point is along the string. Assumes nothing.
-use mathlib.Core.List.{[], ◌∷◌}
-use mathlib.Core.Path.{◌≡◌, ap, ◌∙◌}
-use Rattle.arcstring_check.specs.Answer.{answered, first_of}
-use Rattle.arcstring_check.specs.Check.{check_number, stored_check, point_check}
-use Rattle.arcstring_check.proofs.Answers.{refused_in_turn, accepted_in_turn, passed_in_turn, both_numbers}
-use Rattle.arcstring_along.specs.OnString.{along}
+use mathlib.Core.Path.{ap, ◌∙◌}
+use mathlib.Core.Bool.{Bool}
+use Rattle.sphericalpoint.specs.declared.SphericalPoint.{SphericalPoint}
+use Rattle.arcstring.specs.Points.{ArcString}
+use Rattle.arcstring_check.specs.Answer.{Answer, answered, unless_refused}
+use Rattle.arcstring_check.specs.Check.{point_check}
+use Rattle.arcstring_check.proofs.Answers.{left, stopped, went_on}
+use Rattle.arcstring_along.specs.OnString.{along_string, along}
+use Rattle.arcstring_along.proofs.Accepted.{string_refused, string_accepted}
 use Rattle.arcstring_along.proofs.on_string.point_is_along_arcstring.Goals as goal
 
-pub along_string-requires : goal.along_string-requires
-along_string-requires c =
-    let number : check_number c.first_of-checked.result
-    ≡ first_of (stored_check c.args.v.now) (first_of (stored_check c.args.near.now) (point_check c.args.p)) = c.first_of-checked.ensures
-    ∙ both_numbers c.check_stored.ensures
-    (c.first_of.ensures ∙ both_numbers c.check_stored-2.ensures c.check_point.ensures) in
-    let passed = passed_in_turn _ (stored_check _) (stored_check _ ∷ point_check _ ∷ []) c.in-Accepted.is number in
-    (passed.0, passed.1.0)
+-- what follows the string's checks
+abbrev of_point : SphericalPoint → ArcString → Answer Bool
+of_point p s = unless_refused (point_check p) (answered (along_string p s))
 
-pub returns-in-Refused : goal.returns-in-Refused
+pub returns-in_err-string : goal.returns-in_err-string
 unfolding along
-returns-in-Refused c =
-    let number : check_number c.first_of-checked.result
-    ≡ first_of (stored_check c.args.v.now) (first_of (stored_check c.args.near.now) (point_check c.args.p)) = c.first_of-checked.ensures
-    ∙ both_numbers c.check_stored.ensures
-    (c.first_of.ensures ∙ both_numbers c.check_stored-2.ensures c.check_point.ensures) in
-    refused_in_turn _ _ (stored_check _) (stored_check _ ∷ point_check _ ∷ []) _ c.in-Refused.is number
+returns-in_err-string c = string_refused c.from_residual.result _ _ _ _ c.from_residual.ensures.1 c.in_err-string.ensures
 
-pub returns-in-Accepted : goal.returns-in-Accepted
+pub returns-in_err-check_point : goal.returns-in_err-check_point
 unfolding along
-returns-in-Accepted c =
-    let number : check_number c.first_of-checked.result
-    ≡ first_of (stored_check c.args.v.now) (first_of (stored_check c.args.near.now) (point_check c.args.p)) = c.first_of-checked.ensures
-    ∙ both_numbers c.check_stored.ensures
-    (c.first_of.ensures ∙ both_numbers c.check_stored-2.ensures c.check_point.ensures) in
-    ap answered c.along_string.ensures
-    ∙ accepted_in_turn _ (stored_check _) (stored_check _ ∷ point_check _ ∷ []) _ c.in-Accepted.is number
+returns-in_err-check_point c =
+    left _ _ c.from_residual-in_err-check_point.ensures.1 ∙ stopped _ _ _ c.in_err-check_point.ensures
+    ∙ string_accepted c.in_ok-string.string (of_point c.args.p) c.in_ok-string.ensures
+
+pub returns : goal.returns
+unfolding along
+returns c =
+    ap answered c.along_string.ensures ∙ went_on _ _ c.in_ok-check_point.ensures
+    ∙ string_accepted c.in_ok-string.string (of_point c.args.p) c.in_ok-string.ensures

@@ -1,125 +1,80 @@
 -- `build` answers as its checks do, and else writes the vertices of the string that the points make, and their numbers. Assumes nothing.
-use mathlib.Core.Path.{◌≡◌, sym, ◌∙◌}
+use mathlib.Core.Path.{◌≡◌, ap, ◌∙◌}
 use Prim.Native.Nat.{◌-◌, ◌*◌, ◌/◌, ◌≤◌}
 use native.Mathlib.Omega.{arith}
-use lib.ListN.{length}
-use Rattle.arcstring.specs.Points.{numbered, points}
-use Rattle.arcstring_build.specs.Build.{built_numbered, build}
-use Rattle.arcstring.proofs.Written.{both_fit}
-use Rattle.arcstring_build.proofs.Builds.{closed_vertices, closed_length, open_vertices, open_length, closed_flag, refused_build, accepted_whole}
-use Rattle.arcstring_build.proofs.Builds.{accepted_two, accepted_buoys, build_short, build_done}
-use borrow.Author.Rules.{rules}
+use mathlib.Core.List.{List, ◌++◌}
+use lib.ListN.{length, drop}
+use Rattle.sphericalpoint.specs.declared.SphericalPoint.{SphericalPoint}
+use Rattle.arcstring.specs.Points.{numbered, points, flat}
+use Rattle.arcstring_build.specs.Build.{built_numbered, built_string, build}
+use Rattle.arcstring_check.proofs.Answers.{left}
+use Rattle.arcstring_check.proofs.Rooms.{rooms_hold}
+use Rattle.arcstring_build.proofs.Builds.{kept_few, kept_length, kept_closed, kept_open, refused_build, accepted_whole, accepted_two}
+use Rattle.arcstring_build.proofs.Builds.{accepted_buoys, build_short, build_done}
 use Rattle.arcstring_build.proofs.build.build.Goals as goal
+use Rattle.arcstring_build.proofs.build.build.Goals.{then-closed, else-closed}
 
-pub returns-in-Refused : goal.returns-in-Refused
+pub returns-in_err-check_building : goal.returns-in_err-check_building
 unfolding build
-returns-in-Refused c =
-    let whole = refused_build _ (built_numbered (numbered (points c.args.v.now) c.args.buoys.now))
-    c.args.v.now c.args.buoys.now c.args.out.now c.args.out_buoys.now c.check_building-checked.ensures _ c.in-Refused.is in
-    record { result_value = whole.0; out_after = whole.1.0; out_buoys_after = whole.1.1 }
+returns-in_err-check_building c =
+    let whole = refused_build (built_numbered (numbered (points c.args.v.now) c.args.buoys.now)) c.args.v.now c.args.buoys.now c.args.out.now
+    c.args.out_buoys.now _ c.in_err-check_building.ensures in
+    record { result_value = left _ _ c.from_residual.ensures.1 ∙ whole.0; out_after = whole.1.0; out_buoys_after = whole.1.1 }
 
-pub ends_meet-requires : goal.ends_meet-requires
-ends_meet-requires c =
-    let whole : length c.args.v.now
-    ≡ 3 * (length c.args.v.now / 3) = accepted_whole _ c.args.v.now c.args.buoys.now c.args.out.now c.args.out_buoys.now c.check_building-checked.ensures c.in_default.is in
-    let two : 2 ≤ length c.args.v.now / 3 = accepted_two _ c.args.v.now c.args.buoys.now c.args.out.now c.args.out_buoys.now c.check_building-checked.ensures c.in_default.is in
-    (whole, omega (arith, two))
+pub invariant_of-ends_meet : goal.invariant_of-ends_meet
+invariant_of-ends_meet c = record { whole = accepted_whole _ c.args.buoys.now c.in_ok-check_building.ensures }
+
+pub ends_meet-closed-requires : goal.ends_meet-closed-requires
+ends_meet-closed-requires c = omega (arith, accepted_two c.args.v.now c.args.buoys.now c.in_ok-check_building.ensures)
 
 pub overflow_sub-n : goal.overflow_sub-n
 overflow_sub-n c =
-    let two : 2 ≤ length c.args.v.now / 3 = accepted_two _ c.args.v.now c.args.buoys.now c.args.out.now c.args.out_buoys.now c.check_building-checked.ensures c.in_default.is in
-    omega (arith, two)
+    let two : 2 ≤ length c.args.v.now / 3 = accepted_two _ c.args.buoys.now c.in_ok-check_building.ensures in
+    omega (arith, kept_few (length c.args.v.now / 3) c.ends_meet-closed.result (omega arith))
 
-pub overflow_sub-n-then-ends_meet : goal.overflow_sub-n-then-ends_meet
-overflow_sub-n-then-ends_meet c =
-    let two : 2 ≤ length c.args.v.now / 3 = accepted_two _ c.args.v.now c.args.buoys.now c.args.out.now c.args.out_buoys.now c.check_building-checked.ensures c.in_default.is in
-    omega (arith, two)
-
-pub returns-then-out-n : goal.returns-then-out-n
+pub returns-in_err-check_rooms : goal.returns-in_err-check_rooms
 unfolding build
-returns-then-out-n c =
-    let whole : length c.args.v.now
-    ≡ 3 * (length c.args.v.now / 3) = accepted_whole _ c.args.v.now c.args.buoys.now c.args.out.now c.args.out_buoys.now c.check_building-checked.ensures c.in_default.is in
-    let meet = sym c.ends_meet.ensures ∙ c.if-ends_meet.true in
-    let whole = build_short _ c.args.v.now c.args.buoys.now c.args.out.now c.args.out_buoys.now c.check_building-checked.ensures c.in_default.is
-    _ _ (closed_vertices c.args.v.now _ whole meet) (closed_length c.args.v.now _ whole meet) c.if-out-n.true in
-    record { result_value = whole.0; out_after = whole.1.0; out_buoys_after = whole.1.1 }
-
-pub overflow_sub-n-then-ends_meet-2 : goal.overflow_sub-n-then-ends_meet-2
-overflow_sub-n-then-ends_meet-2 c =
-    let two : 2 ≤ length c.args.v.now / 3 = accepted_two _ c.args.v.now c.args.buoys.now c.args.out.now c.args.out_buoys.now c.check_building-checked.ensures c.in_default.is in
-    omega (arith, two)
+returns-in_err-check_rooms c =
+    let passed = c.in_ok-check_building.ensures in
+    let m = length c.args.v.now / 3 - c.from.result in
+    let count : length (built_string (points c.args.v.now)).vertices ≡ m =
+    kept_length c.args.v.now _ m _ (accepted_whole _ c.args.buoys.now passed) c.ends_meet-closed.ensures
+    (ap (λ k. length c.args.v.now / 3 - k) c.from.ensures) in
+    let whole = build_short c.args.v.now c.args.buoys.now passed c.args.out.now c.args.out_buoys.now m count _ c.in_err-check_rooms.ensures in
+    record {
+      result_value = left _ _ c.from_residual-in_err-check_rooms.ensures.1 ∙ whole.0;
+      out_after = whole.1.0;
+      out_buoys_after = whole.1.1;
+    }
 
 pub build_closed-requires : goal.build_closed-requires
-build_closed-requires c =
-    let whole : length c.args.v.now
-    ≡ 3 * (length c.args.v.now / 3) = accepted_whole _ c.args.v.now c.args.buoys.now c.args.out.now c.args.out_buoys.now c.check_building-checked.ensures c.in_default.is in
-    let two : 2 ≤ length c.args.v.now / 3 = accepted_two _ c.args.v.now c.args.buoys.now c.args.out.now c.args.out_buoys.now c.check_building-checked.ensures c.in_default.is in
-    (omega (arith, two, whole), (both_fit _ _ _ c.if-out-n.false).0)
-
-pub overflow_sub-n-then-ends_meet-3 : goal.overflow_sub-n-then-ends_meet-3
-overflow_sub-n-then-ends_meet-3 c =
-    let two : 2 ≤ length c.args.v.now / 3 = accepted_two _ c.args.v.now c.args.buoys.now c.args.out.now c.args.out_buoys.now c.check_building-checked.ensures c.in_default.is in
-    omega (arith, two)
-
-pub copy_buoys-requires : goal.copy_buoys-requires
-copy_buoys-requires c =
-    let two : 2 ≤ length c.args.v.now / 3 = accepted_two _ c.args.v.now c.args.buoys.now c.args.out.now c.args.out_buoys.now c.check_building-checked.ensures c.in_default.is in
-    let as_many : length c.args.buoys.now
-    ≡ length c.args.v.now / 3 = accepted_buoys _ c.args.v.now c.args.buoys.now c.args.out.now c.args.out_buoys.now c.check_building-checked.ensures c.in_default.is in
-    let n = length c.args.v.now / 3 in
-    (omega (arith, two, as_many), omega (arith, (both_fit (length c.args.out.now) (length c.args.out_buoys.now) (n - 1) c.if-out-n.false).1))
-
-pub overflow_sub-result : goal.overflow_sub-result
-overflow_sub-result c =
-    let two : 2 ≤ length c.args.v.now / 3 = accepted_two _ c.args.v.now c.args.buoys.now c.args.out.now c.args.out_buoys.now c.check_building-checked.ensures c.in_default.is in
-    omega (arith, two)
-
-pub returns-then-ends_meet : goal.returns-then-ends_meet
-unfolding build
-returns-then-ends_meet c =
-    let whole : length c.args.v.now
-    ≡ 3 * (length c.args.v.now / 3) = accepted_whole _ c.args.v.now c.args.buoys.now c.args.out.now c.args.out_buoys.now c.check_building-checked.ensures c.in_default.is in
-    let as_many : length c.args.buoys.now
-    ≡ length c.args.v.now / 3 = accepted_buoys _ c.args.v.now c.args.buoys.now c.args.out.now c.args.out_buoys.now c.check_building-checked.ensures c.in_default.is in
-    let meet = sym c.ends_meet.ensures ∙ c.if-ends_meet.true in
-    let whole = build_done _ c.args.v.now c.args.buoys.now c.args.out.now c.args.out_buoys.now c.check_building-checked.ensures c.in_default.is
-    _ _ (closed_vertices c.args.v.now _ whole meet) (closed_length c.args.v.now _ whole meet) _ _ _
-    c.if-out-n.false (sym meet ∙ closed_flag (points c.args.v.now)) (omega (arith, as_many)) c.build_closed.ensures c.copy_buoys.ensures in
-    record { result_value = whole.0; out_after = whole.1.0; out_buoys_after = whole.1.1 }
-
-pub returns-then-out-n-2 : goal.returns-then-out-n-2
-unfolding build
-returns-then-out-n-2 c =
-    let whole : length c.args.v.now
-    ≡ 3 * (length c.args.v.now / 3) = accepted_whole _ c.args.v.now c.args.buoys.now c.args.out.now c.args.out_buoys.now c.check_building-checked.ensures c.in_default.is in
-    let apart = sym c.ends_meet.ensures ∙ c.if-ends_meet.false in
-    let whole = build_short _ c.args.v.now c.args.buoys.now c.args.out.now c.args.out_buoys.now c.check_building-checked.ensures c.in_default.is
-    _ _ (open_vertices c.args.v.now _ whole apart) (open_length c.args.v.now _ whole apart) c.if-out-n-2.true in
-    record { result_value = whole.0; out_after = whole.1.0; out_buoys_after = whole.1.1 }
+build_closed-requires c = (omega arith, (rooms_hold _ _ _ c.in_ok-check_rooms.ensures).0)
 
 pub build_open-requires : goal.build_open-requires
-build_open-requires c =
-    let whole : length c.args.v.now
-    ≡ 3 * (length c.args.v.now / 3) = accepted_whole _ c.args.v.now c.args.buoys.now c.args.out.now c.args.out_buoys.now c.check_building-checked.ensures c.in_default.is in
-    (omega (arith, whole), (both_fit _ _ _ c.if-out-n-2.false).0)
+build_open-requires c = (omega arith, (rooms_hold _ _ _ c.in_ok-check_rooms.ensures).0)
 
-pub copy_buoys-requires-2 : goal.copy_buoys-requires-2
-copy_buoys-requires-2 c =
-    let as_many : length c.args.buoys.now
-    ≡ length c.args.v.now / 3 = accepted_buoys _ c.args.v.now c.args.buoys.now c.args.out.now c.args.out_buoys.now c.check_building-checked.ensures c.in_default.is in
-    let n = length c.args.v.now / 3 in
-    (omega (arith, as_many), omega (arith, (both_fit (length c.args.out.now) (length c.args.out_buoys.now) n c.if-out-n-2.false).1))
+pub copy_items-requires : goal.copy_items-requires
+copy_items-requires c =
+    let as_many : length c.args.buoys.now ≡ length c.args.v.now / 3 = accepted_buoys _ _ c.in_ok-check_building.ensures in
+    let fit = (rooms_hold _ _ _ c.in_ok-check_rooms.ensures).1 in
+    (omega (arith, as_many), omega arith)
 
 pub returns : goal.returns
 unfolding build
 returns c =
-    let whole : length c.args.v.now
-    ≡ 3 * (length c.args.v.now / 3) = accepted_whole _ c.args.v.now c.args.buoys.now c.args.out.now c.args.out_buoys.now c.check_building-checked.ensures c.in_default.is in
-    let as_many : length c.args.buoys.now
-    ≡ length c.args.v.now / 3 = accepted_buoys _ c.args.v.now c.args.buoys.now c.args.out.now c.args.out_buoys.now c.check_building-checked.ensures c.in_default.is in
-    let apart = sym c.ends_meet.ensures ∙ c.if-ends_meet.false in
-    let whole = build_done _ c.args.v.now c.args.buoys.now c.args.out.now c.args.out_buoys.now c.check_building-checked.ensures c.in_default.is
-    _ _ (open_vertices c.args.v.now _ whole apart) (open_length c.args.v.now _ whole apart) _ _ _
-    c.if-out-n-2.false (sym apart ∙ closed_flag (points c.args.v.now)) (omega (arith, as_many)) c.build_open.ensures c.copy_buoys-2.ensures in
+    let passed = c.in_ok-check_building.ensures in
+    let all = accepted_whole _ c.args.buoys.now passed in
+    let as_many : length c.args.buoys.now ≡ length c.args.v.now / 3 = accepted_buoys c.args.v.now c.args.buoys.now passed in
+    let m = length c.args.v.now / 3 - c.from.result in
+    let kept : m ≡ length c.args.v.now / 3 - mir.Val.bool_byte c.ends_meet-closed.result = ap (λ k. length c.args.v.now / 3 - k) c.from.ensures in
+    let count : length (built_string (points c.args.v.now)).vertices ≡ m = kept_length c.args.v.now _ m _ all c.ends_meet-closed.ensures kept in
+    let written : c.if-closed.out ≡ flat (built_string (points c.args.v.now)).vertices ++ drop (3 * m) c.args.out.now =
+    elim c.if-closed.branch [
+      | then-closed w ↦ w.out-is ∙ w.build_closed.ensures ∙ ap (λ (ps : List SphericalPoint). flat ps ++ drop (3 * m) c.args.out.now)
+          (kept_closed c.args.v.now _ m _ all c.ends_meet-closed.ensures kept w.if-closed.true)
+      | else-closed w ↦ w.out-is ∙ w.build_open.ensures ∙ ap (λ (ps : List SphericalPoint). flat ps ++ drop (3 * m) c.args.out.now)
+          (kept_open c.args.v.now _ m _ all c.ends_meet-closed.ensures kept w.if-closed.false)
+    ] in
+    let whole = build_done c.args.v.now c.args.buoys.now passed c.args.out.now c.args.out_buoys.now m count c.ends_meet-closed.result _ _
+    c.in_ok-check_rooms.ensures c.ends_meet-closed.ensures (omega (arith, as_many)) written c.copy_items.ensures in
     record { result_value = whole.0; out_after = whole.1.0; out_buoys_after = whole.1.1 }

@@ -1,14 +1,11 @@
 -- `build_open` normalises the first points of one list into another: after i turns the first i are written. Assumes nothing.
 use mathlib.Core.Path.{◌≡◌}
-use Prim.Native.Nat.{◌≤◌, ◌-◌, ◌*◌}
-use lib.ListN.{length, take}
+use Prim.Native.Nat.{◌*◌}
+use lib.ListN.{take}
 use Rattle.arcstring.specs.Points.{points, flat}
 use Rattle.arcstring.specs.Splice.{splice}
 use Rattle.arcstring_build.specs.Build.{normalized_all}
 use Rattle.arcstring_build.proofs.inner.build_open.Given as goal
 
 abbrev pub invariant-loop-i : goal.invariant-loop-i
-invariant-loop-i l = (l.i ≤ l.m) × (length l.out ≡ length l.initial.out) × (l.out ≡ splice l.initial.out 0 (flat (normalized_all (points (take (3 * l.i) l.v)))))
-
-abbrev pub decreases-loop-i : goal.decreases-loop-i
-decreases-loop-i l = l.m - l.i
+invariant-loop-i l = l.out ≡ splice l.initial.out 0 (flat (normalized_all (points (take (3 * l.i) l.v))))

@@ -4,5 +4,5 @@ use Rattle.arcstring_build.proofs.inner.ends_meet.Goals as goal
 
 pub returns : goal.returns
 returns c =
-    ends_of c.args.v.now c.args.n _ _ _ _ _ c.requires.0 c.requires.1 c.vertex_at.ensures c.normalize_unless_short-first.ensures
-    c.vertex_at-2.ensures c.normalize_unless_short-last.ensures c.xyz_eq.ensures
+    ends_of c.args.string.v.now c.args.string.n _ _ _ _ _ c.args.string.whole c.requires c.at.ensures c.normalize_unless_short-first.ensures
+    c.at-2.ensures c.normalize_unless_short-last.ensures c.xyz_eq.ensures

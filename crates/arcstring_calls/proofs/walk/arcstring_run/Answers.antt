@@ -1,25 +1,7 @@
--- Where a run starts and how long it is, from the run itself. Assumes nothing.
-use mathlib.Core.Path.{ap, ◌∙◌}
-use Prim.Native.Nat.{ℕ, ◌*◌}
-use native.Mathlib.Omega.{arith}
-use lib.Dec.{eqb}
-use lib.ListN.{length}
-use Rattle.arcstring_check.specs.Answer.{pick}
+-- A run that is not empty starts within the list, whose length fits. Assumes nothing.
+use Rattle.std.proofs.Common.{sym, ◌∙◌, arith}
 use Rattle.arcstring_calls.proofs.Runs.{run_starts_within}
 use Rattle.arcstring_calls.proofs.walk.arcstring_run.Goals as goal
 
-pub run-part-requires : goal.run-part-requires
-run-part-requires c = tt
-
-pub run_start-requires : goal.run_start-requires
-run_start-requires c h =
-    let starts = run_starts_within c.args.v.now c.args.from c.args.to (λ z. h (ap length c.run-part.ensures ∙ z)) in
-    omega (arith, starts, c.well_formed)
-
-pub returns : goal.returns
-returns c =
-    let len = ap length c.run-part.ensures in
-    record {
-      start_after = c.run_start.ensures ∙ ap (λ (n : ℕ). pick (eqb n 0) 0 (3 * c.args.from)) len;
-      len_after = len;
-    }
+pub overflow_mul-start : goal.overflow_mul-start
+overflow_mul-start c = omega (arith, run_starts_within _ _ _ _ c.run-part.ensures (sym c.is_empty.ensures ∙ c.if-is_empty.false), c.well_formed)

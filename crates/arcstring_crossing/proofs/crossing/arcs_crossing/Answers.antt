@@ -1,33 +1,29 @@
 -- A refusal of the first leg, then of the second, else the class of the pair. Assumes nothing.
-use mathlib.Core.List.{[], ◌∷◌}
-use mathlib.Core.Path.{ap, ◌∙◌}
-use Rattle.arcstring_check.specs.Answer.{answered}
-use Rattle.arcstring_check.proofs.Answers.{refused_in_turn, accepted_in_turn, both_numbers}
+use mathlib.Core.Path.{◌≡◌, ap, ◌∙◌}
+use Rattle.std.specs.Prelude.{Result}
+use Rattle.std.specs.Result.{IsErrAnd}
+use Rattle.std.proofs.lemmas.Result.{err_from_is_err_and}
+use Rattle.arcstring_check.specs.declared.check.Refusal.{Refusal}
+use Rattle.arcstring_check.specs.Answer.{refused, answered, refusal_number}
+use Rattle.arcstring_check.proofs.Answers.{stopped, went_on}
 use Rattle.arcstring_pair.specs.declared.pair.Pair.{Pair}
 use Rattle.arcstring_pair.specs.Pair.{judged, arcs_crossing}
-use Rattle.arcstring.specs.Leg.{leg_check}
+use Rattle.arcstring_crossing.specs.Crossing.{crossed_answer}
 use Rattle.arcstring_crossing.proofs.crossing.arcs_crossing.Goals as goal
 
-pub check_leg-requires : goal.check_leg-requires
-check_leg-requires c = tt
+left : (r : Result Pair Refusal) (e : Refusal) → IsErrAnd r (λ y. y ≡ e) → crossed_answer r ≡ refused (refusal_number e)
+left r e h = let p = err_from_is_err_and r h in rw (p.1, p.2)
 
-pub check_leg-requires-2 : goal.check_leg-requires-2
-check_leg-requires-2 c = tt
-
-pub first_of-checked-requires : goal.first_of-checked-requires
-first_of-checked-requires c = tt
-
-pub pair_of-requires : goal.pair_of-requires
-pair_of-requires c = tt
-
-pub returns-in-Refused : goal.returns-in-Refused
+pub returns-in_err-check_leg : goal.returns-in_err-check_leg
 unfolding arcs_crossing
-returns-in-Refused c =
-    refused_in_turn _ _ (leg_check _) (leg_check _ ∷ []) _ c.in-Refused.is
-    (c.first_of-checked.ensures ∙ both_numbers c.check_leg.ensures c.check_leg-2.ensures)
+returns-in_err-check_leg c = left _ _ c.from_residual.ensures.1 ∙ stopped _ _ _ c.in_err-check_leg.ensures
 
-pub returns-in-Accepted : goal.returns-in-Accepted
+pub returns-in_err-check_leg-2 : goal.returns-in_err-check_leg-2
 unfolding arcs_crossing
-returns-in-Accepted c =
-    ap (λ (p : Pair). answered (judged p)) c.pair_of.ensures ∙ accepted_in_turn _ (leg_check _) (leg_check _ ∷ []) _ c.in-Accepted.is
-    (c.first_of-checked.ensures ∙ both_numbers c.check_leg.ensures c.check_leg-2.ensures)
+returns-in_err-check_leg-2 c =
+    left _ _ c.from_residual-in_err-check_leg-2.ensures.1 ∙ stopped _ _ _ c.in_err-check_leg-2.ensures ∙ went_on _ _ c.in_ok-check_leg.ensures
+
+pub returns : goal.returns
+unfolding arcs_crossing
+returns c =
+    ap (λ (p : Pair). answered (judged p)) c.pair_of.ensures ∙ went_on _ _ c.in_ok-check_leg-2.ensures ∙ went_on _ _ c.in_ok-check_leg.ensures

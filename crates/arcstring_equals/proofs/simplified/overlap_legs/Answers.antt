@@ -1,71 +1,39 @@
 -- `overlap_legs` seeks a leg with both ends along the other string: what the legs from vertex k - 1 on answer is the whole answer. Assumes nothing.
-use mathlib.Core.Path.{◌≡◌, refl, sym, ◌∙◌}
-use Prim.Native.Nat.{◌-◌, ◌*◌, ◌/◌}
+use mathlib.Core.Path.{sym, ◌∙◌}
 use native.Mathlib.Omega.{arith}
-use lib.ListN.{length}
-use Rattle.arcstring_check.proofs.Checks.{stored_whole, stored_some}
-use Rattle.arcstring_equals.proofs.Overlaps.{start-not-along, both_along, end_not-along, closed_end, open_end}
+use Rattle.arcstring_equals.proofs.Overlaps.{of_vertices, start-not-along, both_along, end_not-along, closed_end, open_end}
 use Rattle.arcstring_equals.proofs.simplified.overlap_legs.Goals as goal
-
-pub loop-k-init : goal.loop-k-init
-loop-k-init c = (omega arith, stored_some c.args.a.now c.requires.0, refl)
-
-pub vertex_at-requires : goal.vertex_at-requires
-vertex_at-requires c =
-    let whole : length c.args.a.now ≡ 3 *
-    (length c.args.a.now / 3) = (stored_whole c.args.a.now c.requires.0).triples in
-    omega (arith, whole)
-
-pub along_string-requires : goal.along_string-requires
-along_string-requires c = (c.requires.1, c.requires.2)
-
-pub loop-k-preserved-then-not-along_string : goal.loop-k-preserved-then-not-along_string
-loop-k-preserved-then-not-along_string c =
-    let whole : length c.args.a.now ≡ 3 *
-    (length c.args.a.now / 3) = (stored_whole c.args.a.now c.requires.0).triples in (
-      omega arith,
-      omega arith,
-      start-not-along _ _ c.args.a.now _ whole c.loop-k.k _ _ c.loop-k.invariant.0
-          c.loop-k-test.true c.vertex_at.ensures c.along_string.ensures c.if-not-along_string.true
-          ∙ c.loop-k.invariant.2,
-    )
-
-pub vertex_at-requires-in-loop-k : goal.vertex_at-requires-in-loop-k
-vertex_at-requires-in-loop-k c =
-    let whole : length c.args.a.now ≡ 3 *
-    (length c.args.a.now / 3) = (stored_whole c.args.a.now c.requires.0).triples in
-    omega (arith, whole)
-
-pub along_string-requires-in-loop-k : goal.along_string-requires-in-loop-k
-along_string-requires-in-loop-k c = (c.requires.1, c.requires.2)
-
-pub returns-then-along_string : goal.returns-then-along_string
-returns-then-along_string c =
-    let whole : length c.args.a.now ≡ 3 *
-    (length c.args.a.now / 3) = (stored_whole c.args.a.now c.requires.0).triples in
-    sym (sym c.loop-k.invariant.2 ∙ both_along _ _ c.args.a.now _ whole c.loop-k.k _ _ c.loop-k.invariant.0 c.loop-k-test.true
-    c.vertex_at.ensures c.along_string.ensures _ _ c.vertex_at-in-loop-k.ensures c.along_string-in-loop-k.ensures
-    c.if-not-along_string.false c.if-along_string.true)
+use Rattle.arcstring_equals.proofs.simplified.overlap_legs.Goals.{else-along_string-via-then-along_string+else-along_string-2}
+use Rattle.arcstring_equals.proofs.simplified.overlap_legs.Goals.{else-along_string-via-else-along_string}
 
 pub loop-k-preserved : goal.loop-k-preserved
 loop-k-preserved c =
-    let whole : length c.args.a.now ≡ 3 *
-    (length c.args.a.now / 3) = (stored_whole c.args.a.now c.requires.0).triples in (
-      omega arith,
-      omega arith,
-      end_not-along _ _ c.args.a.now _ whole c.loop-k.k _ _ c.loop-k.invariant.0 c.loop-k-test.true
-          c.vertex_at.ensures c.along_string.ensures _ _ c.vertex_at-in-loop-k.ensures c.along_string-in-loop-k.ensures
-          c.if-not-along_string.false c.if-along_string.false ∙ c.loop-k.invariant.2,
-    )
+    let s = c.vertices-string.result in
+    elim c.else-along_string.branch [
+      | else-along_string-via-then-along_string+else-along_string-2 w ↦
+          end_not-along _ _ s.v.now _ s.whole c.loop-k.k _ _ c.loop-k.auto.k c.loop-k-test.true c.at.ensures c.along_string.ensures _ _
+          w.at-then-along_string.ensures w.along_string-then-along_string.ensures w.if-along_string.true w.if-along_string-2.false
+          ∙ c.loop-k.invariant
+      | else-along_string-via-else-along_string w ↦
+          start-not-along _ _ s.v.now _ s.whole c.loop-k.k _ _ c.loop-k.auto.k c.loop-k-test.true c.at.ensures c.along_string.ensures w.if-along_string.false
+          ∙ c.loop-k.invariant
+    ]
 
-pub returns-then-a_closed : goal.returns-then-a_closed
-returns-then-a_closed c =
-    let whole : length c.args.a.now ≡ 3 *
-    (length c.args.a.now / 3) = (stored_whole c.args.a.now c.requires.0).triples in
-    sym (sym c.loop-k.invariant.2 ∙ closed_end _ _ c.args.a.now _ whole c.loop-k.k (omega arith) (omega arith) c.if-a_closed.true)
+pub returns-then-along_string-2 : goal.returns-then-along_string-2
+returns-then-along_string-2 c =
+    let s = c.vertices-string.result in
+    sym (both_along _ _ s.v.now _ s.whole c.loop-k.k _ _ c.loop-k.auto.k c.loop-k-test.true c.at.ensures c.along_string.ensures _ _
+    c.at-then-along_string.ensures c.along_string-then-along_string.ensures c.if-along_string.true c.if-along_string-2.true)
+    ∙ c.loop-k.invariant ∙ of_vertices _ _ c.vertices-string.ensures.0
+
+pub returns-then-a : goal.returns-then-a
+returns-then-a c =
+    let s = c.vertices-string.result in
+    sym (closed_end _ _ s.v.now _ s.whole c.loop-k.k (omega arith) (omega arith) c.if-a.true)
+    ∙ c.loop-k.invariant ∙ of_vertices _ _ c.vertices-string.ensures.0
 
 pub returns : goal.returns
 returns c =
-    let whole : length c.args.a.now ≡ 3 *
-    (length c.args.a.now / 3) = (stored_whole c.args.a.now c.requires.0).triples in
-    sym (sym c.loop-k.invariant.2 ∙ open_end _ _ c.args.a.now _ whole c.loop-k.k (omega arith) (omega arith) c.if-a_closed.false)
+    let s = c.vertices-string.result in
+    sym (open_end _ _ s.v.now _ s.whole c.loop-k.k (omega arith) (omega arith) c.if-a.false)
+    ∙ c.loop-k.invariant ∙ of_vertices _ _ c.vertices-string.ensures.0

@@ -1,58 +1,35 @@
 -- `overlaps` refuses as the four lists' checks do, and else goes by the simplified copies, by each string within the other and by the legs. Assumes nothing.
-use mathlib.Core.List.{[], ◌∷◌}
-use mathlib.Core.Path.{◌≡◌, sym, ap, ◌∙◌}
-use mathlib.Core.Bool.{Bool}
-use Rattle.arcstring_check.specs.Answer.{Answer, unless_refused, decided_answer}
-use Rattle.arcstring_check.specs.Check.{stored_check}
-use Rattle.arcstring_check.proofs.Answers.{refused_in_turn, accepted_in_turn}
-use Rattle.arcstring_against.specs.Against.{two_strings}
-use Rattle.arcstring_equals.specs.Simplified.{overlaps}
-use Rattle.arcstring_equals.proofs.Equals.{copies_refused, copies_differ, copies_equal}
-use Rattle.arcstring_against.proofs.Against.{four_accepted}
+use mathlib.Core.Path.{◌∙◌}
+use mathlib.Core.Bool.{true, false}
+use Rattle.arcstring_check.proofs.Answers.{left}
+use Rattle.arcstring_against.proofs.Against.{first_string_refused, second_string_refused, both_strings_accepted}
+use Rattle.arcstring_equals.specs.Simplified.{overlaps_string, overlaps}
+use Rattle.arcstring_equals.proofs.Equals.{copies_refused, copies_told}
 use Rattle.arcstring_equals.proofs.simplified.overlaps.Goals as goal
 
-pub returns-in-Refused : goal.returns-in-Refused
-unfolding overlaps two_strings
-returns-in-Refused c =
-    refused_in_turn _ _ (stored_check _) (stored_check _ ∷ stored_check _ ∷ stored_check _ ∷ []) _ c.in-Refused.is
-    c.check_two-checked.ensures
+pub returns-in_err-a : goal.returns-in_err-a
+unfolding overlaps
+returns-in_err-a c = first_string_refused _ _ _ _ c.from_residual.result _ _ c.from_residual.ensures.1 c.in_err-a.ensures
 
-pub same_simplified-same-requires : goal.same_simplified-same-requires
-same_simplified-same-requires c =
-    let passed : (stored_check c.args.a.now ≡ 0) × (stored_check c.args.a_near.now ≡ 0) × (stored_check c.args.b.now ≡ 0)
-    × (stored_check c.args.b_near.now ≡ 0) = four_accepted _ c.in_default.is _ _ _ _ c.check_two-checked.ensures in
-    (passed.0, passed.2)
+pub returns-in_err-b : goal.returns-in_err-b
+unfolding overlaps
+returns-in_err-b c =
+    second_string_refused _ _ _ _ c.in_ok-a.a c.in_ok-a.ensures c.from_residual-in_err-b.result _ _ c.from_residual-in_err-b.ensures.1 c.in_err-b.ensures
 
-pub returns-then-not-yes : goal.returns-then-not-yes
-unfolding overlaps two_strings
-returns-then-not-yes c =
-    let follows : (x : Answer Bool) → x ≡ unless_refused (stored_check c.args.a.now) (unless_refused (stored_check c.args.a_near.now)
-    (unless_refused (stored_check c.args.b.now) (unless_refused (stored_check c.args.b_near.now) x))) = λ x. accepted_in_turn _ (stored_check _) (stored_check _ ∷ stored_check _ ∷ stored_check _ ∷ []) x c.in_default.is c.check_two-checked.ensures in
-    copies_differ c.args.a.now c.args.a_near.now c.args.a_closed c.args.b.now c.args.b_near.now c.args.b_closed _
-    (sym (ap decided_answer c.in-Verdict.is) ∙ c.same_simplified-same.ensures) c.if-not-yes.true
-    ∙ follows _
+pub returns-in_err-same : goal.returns-in_err-same
+unfolding overlaps
+returns-in_err-same c =
+    left _ _ c.from_residual-in_err-same.ensures.1 ∙ copies_refused _ _ _ c.in_err-same.ensures
+    ∙ both_strings_accepted _ _ _ _ c.in_ok-a.a c.in_ok-a.ensures c.in_ok-b.b overlaps_string c.in_ok-b.ensures
 
-pub overlaps_apart-requires : goal.overlaps_apart-requires
-overlaps_apart-requires c =
-    let passed : (stored_check c.args.a.now ≡ 0) × (stored_check c.args.a_near.now ≡ 0) × (stored_check c.args.b.now ≡ 0)
-    × (stored_check c.args.b_near.now ≡ 0) = four_accepted _ c.in_default.is _ _ _ _ c.check_two-checked.ensures in
-    passed
+pub returns-then-same : goal.returns-then-same
+unfolding overlaps
+returns-then-same c =
+    c.overlaps_apart.ensures ∙ copies_told _ _ _ true c.in_ok-same.ensures c.if-same.true
+    ∙ both_strings_accepted _ _ _ _ c.in_ok-a.a c.in_ok-a.ensures c.in_ok-b.b overlaps_string c.in_ok-b.ensures
 
-pub returns-in-Refused-same : goal.returns-in-Refused-same
-unfolding overlaps two_strings
-returns-in-Refused-same c =
-    let follows : (x : Answer Bool) → x ≡ unless_refused (stored_check c.args.a.now) (unless_refused (stored_check c.args.a_near.now)
-    (unless_refused (stored_check c.args.b.now) (unless_refused (stored_check c.args.b_near.now) x))) = λ x. accepted_in_turn _ (stored_check _) (stored_check _ ∷ stored_check _ ∷ stored_check _ ∷ []) x c.in_default.is c.check_two-checked.ensures in
-    copies_refused c.args.a.now c.args.a_near.now c.args.a_closed c.args.b.now c.args.b_near.now c.args.b_closed _
-    (sym (ap decided_answer c.in-Refused-same.is) ∙ c.same_simplified-same.ensures)
-    ∙ follows _
-
-pub returns-else-not-yes : goal.returns-else-not-yes
-unfolding overlaps two_strings
-returns-else-not-yes c =
-    let follows : (x : Answer Bool) → x ≡ unless_refused (stored_check c.args.a.now) (unless_refused (stored_check c.args.a_near.now)
-    (unless_refused (stored_check c.args.b.now) (unless_refused (stored_check c.args.b_near.now) x))) = λ x. accepted_in_turn _ (stored_check _) (stored_check _ ∷ stored_check _ ∷ stored_check _ ∷ []) x c.in_default.is c.check_two-checked.ensures in
-    copies_equal c.args.a.now c.args.a_near.now c.args.a_closed c.args.b.now c.args.b_near.now c.args.b_closed _ _
-    (sym (ap decided_answer c.in-Verdict.is) ∙ c.same_simplified-same.ensures) c.if-not-yes.false
-    c.overlaps_apart.ensures
-    ∙ follows _
+pub returns-else-same : goal.returns-else-same
+unfolding overlaps
+returns-else-same c =
+    copies_told _ _ _ false c.in_ok-same.ensures c.if-same.false
+    ∙ both_strings_accepted _ _ _ _ c.in_ok-a.a c.in_ok-a.ensures c.in_ok-b.b overlaps_string c.in_ok-b.ensures

@@ -1,26 +1,14 @@
--- `insert_vertex` moves vertices one place further, the last one first, and writes the point: before each turn those from i on are moved. Assumes nothing.
-use mathlib.Core.Path.{refl, ◌∙◌}
-use Prim.Native.Nat.{◌-◌}
+-- `insert_vertex` moves the vertices from k on one place further, and writes the point before them. Assumes nothing.
+use mathlib.Core.Path.{◌≡◌, refl, ap, ◌∙◌}
+use Prim.Native.Nat.{◌+◌, ◌-◌, ◌*◌}
 use native.Mathlib.Omega.{arith}
-use Rattle.arcstring_insert.proofs.Shifts.{shift_none, shift_step, shift_all}
+use lib.ListN.{drop}
+use lib.Seq.{paste}
+use Rattle.arcstring_insert.proofs.Shifts.{floats, put_before_moved}
 use Rattle.arcstring_insert.proofs.inner.insert_vertex.Goals as goal
-
-pub loop-i-init : goal.loop-i-init
-loop-i-init c = (omega arith, omega arith, refl, shift_none _ _)
-
-pub loop-i-preserved : goal.loop-i-preserved
-loop-i-preserved c = (
-  omega arith,
-  omega arith,
-  c.put_vertex.auto.out ∙ c.loop-i.invariant.2,
-  shift_step c.args.work.now c.loop-i.work _ c.args.n c.loop-i.i _ (omega arith) c.loop-i.invariant.1 c.requires.1 c.loop-i.invariant.3
-      c.vertex_at.ensures c.put_vertex.ensures,
-)
-
-pub shape_of-work : goal.shape_of-work
-shape_of-work c = c.put_vertex-2.auto.out ∙ c.loop-i.invariant.2
 
 pub returns : goal.returns
 returns c =
-    shift_all c.args.work.now c.loop-i.work _ c.args.n c.loop-i.i c.args.k c.args.p (omega arith) c.requires.0 c.requires.1
-    c.loop-i.invariant.3 c.put_vertex-2.ensures
+    let e : 3 * c.args.n - 3 * c.args.k ≡ 3 * (c.args.n - c.args.k) = omega arith in
+    put_before_moved c.args.work.now _ _ (3 * c.args.k) (3 * c.args.k + 3) (3 * (c.args.n - c.args.k)) (floats c.args.p) refl (omega arith)
+    (c.copy_within.ensures.after ∙ ap (paste c.args.work.now (3 * c.args.k + 3) (drop (3 * c.args.k) c.args.work.now)) e) c.put_vertex.ensures

@@ -1,57 +1,36 @@
 -- A refusal of the first string, of the second and of the margin, else the listing of all pairs. Assumes nothing.
-use mathlib.Core.List.{[], ◌∷◌}
-use mathlib.Core.Path.{◌≡◌, ◌∙◌}
-use Rattle.arcstring_check.specs.Answer.{first_of}
-use Rattle.arcstring_check.specs.Check.{check_number, stored_check, margin_check}
-use Rattle.arcstring_check.proofs.Answers.{refused_in_turn, accepted_in_turn, both_numbers, passed_in_turn}
-use Rattle.arcstring_listing.specs.Listing.{crossings}
-use Rattle.arcstring_listing.proofs.Listings.{refused_leaves, leaves_as}
+use mathlib.Core.Path.{ap, ◌∙◌}
+use mathlib.Core.List.{List}
+use lib.ListN.{length}
+use Rattle.arcstring_check.specs.Check.{stored_check, margin_check}
+use Rattle.arcstring_check.proofs.Answers.{stopped, went_on}
+use Rattle.arcstring_pair.specs.declared.pair.Pair.{Pair}
+use Rattle.arcstring_listing.specs.Listing.{listing_of, in_room, crossings}
+use Rattle.arcstring_listing.proofs.Turns.{stopped_last, went_on_last}
+use Rattle.arcstring_listing.proofs.Listings.{left_leaves, leaves_as}
+use Rattle.arcstring_listing.proofs.Visits.{visited_as}
 use Rattle.arcstring_listing.proofs.listing.crossings.Goals as goal
 
-pub check_stored-requires : goal.check_stored-requires
-check_stored-requires c = tt
-
-pub check_last-requires : goal.check_last-requires
-check_last-requires c = tt
-
-pub first_of-checked-requires : goal.first_of-checked-requires
-first_of-checked-requires c = tt
-
-pub returns-in-Refused : goal.returns-in-Refused
+pub returns-in_err-left : goal.returns-in_err-left
 unfolding crossings
-returns-in-Refused c =
-    let number : check_number c.first_of-checked.result
-    ≡ first_of (stored_check c.args.a.now)
-    (first_of (stored_check c.args.b.now)
-    (margin_check c.args.margin)) = c.first_of-checked.ensures ∙ both_numbers c.check_stored.ensures c.check_last.ensures in
-    let whole = refused_leaves _ _ _ _ (refused_in_turn _ _ (stored_check _) (stored_check _ ∷ margin_check _ ∷ []) _ c.in-Refused.is
-    number) in
+returns-in_err-left c =
+    let whole = left_leaves _ _ _ _ _ c.from_residual.ensures.1 (stopped _ _ _ c.in_err-left.ensures) in
     record { result_value = whole.0; points_after = whole.1.0; marks_after = whole.1.1 }
 
-pub list_two-requires : goal.list_two-requires
-list_two-requires c =
-    let number : check_number c.first_of-checked.result
-    ≡ first_of (stored_check c.args.a.now)
-    (first_of (stored_check c.args.b.now)
-    (margin_check c.args.margin)) = c.first_of-checked.ensures ∙ both_numbers c.check_stored.ensures c.check_last.ensures in
-    let ok = passed_in_turn _ (stored_check _) (stored_check _ ∷ margin_check _ ∷ []) c.in_default.is
-    number in
-    (ok.0, ok.1.0)
-
-pub shape_of-points : goal.shape_of-points
-shape_of-points c = c.list_two.auto.points
-
-pub shape_of-marks : goal.shape_of-marks
-shape_of-marks c = c.list_two.auto.marks
+pub returns-in_err-right : goal.returns-in_err-right
+unfolding crossings
+returns-in_err-right c =
+    let whole = left_leaves _ _ _ _ _ c.from_residual-in_err-right.ensures.1
+    (stopped_last _ (stored_check c.args.b.now) (margin_check c.args.margin) _ c.in_err-right.ensures ∙ went_on _ _ c.in_ok-left.ensures.2) in
+    record { result_value = whole.0; points_after = whole.1.0; marks_after = whole.1.1 }
 
 pub returns : goal.returns
 unfolding crossings
 returns c =
-    let number : check_number c.first_of-checked.result
-    ≡ first_of (stored_check c.args.a.now)
-    (first_of (stored_check c.args.b.now)
-    (margin_check c.args.margin)) = c.first_of-checked.ensures ∙ both_numbers c.check_stored.ensures c.check_last.ensures in
-    let whole = leaves_as _ _ _ _ _ _ _ (accepted_in_turn _ (stored_check _) (stored_check _ ∷ margin_check _ ∷ []) _
-    c.in_default.is
-    number) (c.list_two.ensures.result_value, (c.list_two.ensures.points_after, c.list_two.ensures.marks_after)) in
+    let a = c.in_ok-left.ensures in
+    let b = c.in_ok-right.ensures in
+    let same = ap (λ (ps : List Pair). in_room (listing_of ps) (length c.args.points.now) (length c.args.marks.now))
+    (visited_as c.args.margin _ _ _ _ _ _ _ _ a.0 a.1 b.0 b.1) in
+    let whole = leaves_as _ _ _ _ _ _ _ (same ∙ went_on_last (stored_check c.args.b.now) (margin_check c.args.margin) _ b.2 ∙ went_on _ _ a.2)
+    (c.list_two.ensures.result_value, (c.list_two.ensures.points_after, c.list_two.ensures.marks_after)) in
     record { result_value = whole.0; points_after = whole.1.0; marks_after = whole.1.1 }

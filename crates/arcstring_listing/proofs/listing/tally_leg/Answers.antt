@@ -5,9 +5,9 @@ use Rattle.arcstring_tally.specs.Tally.{no_tally, tally_on}
 use Rattle.arcstring_listing.proofs.Visits.{accepted_as, visits_as}
 use Rattle.arcstring_listing.proofs.listing.tally_leg.Goals as goal
 
-pub tally_two-requires : goal.tally_two-requires
-tally_two-requires c = (accepted_as _ _ c.leg_string-a.ensures c.requires.0, c.requires.1)
+pub invariant_of-a : goal.invariant_of-a
+invariant_of-a c = record { accepted = accepted_as _ _ c.leg_string-v.ensures c.requires }
 
 pub returns : goal.returns
 unfolding of_bits
-returns c = c.tally_two.ensures.0 ∙ ap (tally_on no_tally) (visits_as _ _ c.leg_string-a.ensures _ _ _)
+returns c = c.tally_two.ensures.0 ∙ ap (tally_on no_tally) (visits_as _ _ c.leg_string-v.ensures _ _ _)

@@ -1,22 +1,19 @@
 -- `mark_on_leg` refuses as its checks do, and else answers whether the leg holds the mark. Assumes nothing.
-use mathlib.Core.List.{[], ◌∷◌}
-use mathlib.Core.Path.{◌≡◌, ap, ◌∙◌}
-use Rattle.arcstring_check.specs.Answer.{answered, first_of}
-use Rattle.arcstring_check.specs.Check.{check_number, point_check}
-use Rattle.arcstring_check.proofs.Answers.{refused_in_turn, accepted_in_turn, both_numbers}
-use Rattle.arcstring.specs.Leg.{leg_of, leg_check}
+use mathlib.Core.Path.{ap, ◌∙◌}
+use Rattle.arcstring_check.specs.Answer.{answered}
+use Rattle.arcstring_check.proofs.Answers.{left, stopped, went_on}
 use Rattle.arcstring_mark.specs.Mark.{on_leg}
 use Rattle.arcstring_mark.proofs.mark.mark_on_leg.Goals as goal
 
-pub returns-in-Refused : goal.returns-in-Refused
+pub returns-in_err-check_leg : goal.returns-in_err-check_leg
 unfolding on_leg
-returns-in-Refused c =
-    let number : check_number c.first_of-checked.result ≡ first_of (leg_check (leg_of c.args.arc)) (point_check c.args.p) = c.first_of-checked.ensures ∙ both_numbers c.check_leg.ensures c.check_point.ensures in
-    refused_in_turn _ _ (leg_check _) (point_check _ ∷ []) _ c.in-Refused.is number
+returns-in_err-check_leg c = left _ _ c.from_residual.ensures.1 ∙ stopped _ _ _ c.in_err-check_leg.ensures
 
-pub returns-in-Accepted : goal.returns-in-Accepted
+pub returns-in_err-check_point : goal.returns-in_err-check_point
 unfolding on_leg
-returns-in-Accepted c =
-    let number : check_number c.first_of-checked.result ≡ first_of (leg_check (leg_of c.args.arc)) (point_check c.args.p) = c.first_of-checked.ensures ∙ both_numbers c.check_leg.ensures c.check_point.ensures in
-    ap answered c.arc_holds.ensures
-    ∙ accepted_in_turn _ (leg_check _) (point_check _ ∷ []) _ c.in-Accepted.is number
+returns-in_err-check_point c =
+    left _ _ c.from_residual-in_err-check_point.ensures.1 ∙ stopped _ _ _ c.in_err-check_point.ensures ∙ went_on _ _ c.in_ok-check_leg.ensures
+
+pub returns : goal.returns
+unfolding on_leg
+returns c = ap answered c.arc_holds.ensures ∙ went_on _ _ c.in_ok-check_point.ensures ∙ went_on _ _ c.in_ok-check_leg.ensures

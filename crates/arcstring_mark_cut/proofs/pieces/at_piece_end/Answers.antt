@@ -4,5 +4,5 @@ use Rattle.arcstring_mark_cut.proofs.pieces.at_piece_end.Goals as goal
 
 pub returns : goal.returns
 returns c =
-    ends_tested c.args.work.now c.args.at c.args.n c.requires.0 c.requires.1 c.args.p _ _ _ _
+    ends_tested c.args.v.now c.args.at c.args.n c.requires.0 c.requires.1 c.args.p _ _ _ _
     c.vertex_at.ensures c.vertex_at-2.ensures c.xyz_eq.ensures c.xyz_eq-2.ensures

@@ -1,8 +1,6 @@
 -- The midpoints written one after the other: after k turns those of the first k legs are written. Assumes nothing.
 use mathlib.Core.Path.{◌≡◌}
 use mathlib.Core.List.{map}
-use Prim.Native.Nat.{◌≤◌, ◌-◌}
-use lib.ListN.{length}
 use Rattle.arcstring.specs.Points.{flat}
 use Rattle.arcstring.specs.Splice.{splice}
 use Rattle.arcstring.specs.Leg.{legs_from}
@@ -10,7 +8,4 @@ use Rattle.arcstring_measure.specs.Measure.{midpoint}
 use Rattle.arcstring_measure.proofs.measure.put_midpoints.Given as goal
 
 abbrev pub invariant-loop-k : goal.invariant-loop-k
-invariant-loop-k l = (l.k ≤ l.l) × (length l.out ≡ length l.initial.out) × (l.out ≡ splice l.initial.out 0 (flat (map midpoint (legs_from l.v 0 l.k))))
-
-abbrev pub decreases-loop-k : goal.decreases-loop-k
-decreases-loop-k l = l.l - l.k
+invariant-loop-k l = l.out ≡ splice l.initial.out 0 (flat (map midpoint (legs_from l.string.v.now 0 l.k)))

@@ -71,15 +71,3 @@ module _
         after_point (take 3 v) (take 1 bs) 1 2 (length-take-le 3 v (omega arith)) (length-take-le 1 bs (omega arith)) refl f g
         ∙ ap (λ (us : List Vertex). x ∷ us) (first_numbered 1 v bs)
         ∙ by_end_lem false (le-ltb (i + 1) (length vs) (omega (arith, count_numbered (length bs) v bs whole refl)))
-
--- ---- the vertices from the end of leg i of n on
-
-module _ (n i : ℕ) (low : i < n) where
-  pub rest_rooms : (space : ℕ) → n + 2 ≤ space → (i + 1 + (n - 1 - i) ≤ n) × (1 + (n - 1 - i) ≤ space)
-  rest_rooms space enough = (omega arith, omega arith)
-
-  pub rest_many : i + 1 < n → (2 ≤ n - i) × (n - i ≤ n + 1)
-  rest_many more = (omega arith, omega arith)
-
-pub some_room : (n space : ℕ) → n + 2 ≤ space → 1 ≤ space
-some_room n space enough = omega arith

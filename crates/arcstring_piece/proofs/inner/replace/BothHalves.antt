@@ -1,11 +1,11 @@
 -- Both halves of a cut, built one after the other: what stands in the lists then, and the room for it. Assumes nothing.
 use mathlib.Core.Path.{◌≡◌, refl, sym, ap, ap₂, subst, ◌∙◌}
+use mathlib.Core.Bool.{Bool}
 use mathlib.Core.List.{List, [], ◌∷◌, ◌++◌}
 use Prim.Native.Nat.{ℕ, ◌+◌, ◌-◌, ◌*◌, ◌≤◌}
 use native.Mathlib.Omega.{arith}
 use lib.Ieee.{Float}
 use lib.ListN.{length, take, length-take, length-map}
-use Rattle.arcstring_check.specs.Answer.{flag_number}
 use Rattle.arcstring.specs.declared.inner.vertex.Vertex.{Vertex}
 use Rattle.arcstring.specs.Points.{numbered, place_of, places_of, buoys_of, points, flat}
 use Rattle.arcstring_check.specs.Check.{most_points}
@@ -33,13 +33,13 @@ both_first us vs m n mid after part past rest mids afters parts pasts rests p q 
     ∙ ap₂ (λ (a b : List Vertex). a ++ b) (together us) (together vs)
 
 -- what stands then, from the two builds: i vertices of `v` with `bs` were read for the first, and j of `w` with `cs` for the second
-pub halves_built : (v w : List Float) (bs cs : List ℕ) (i j : ℕ) (us ws : List Vertex) (m n p q : ℕ)
+pub halves_built : (v w : List Float) (bs cs : List ℕ) (i j : ℕ) (us ws : List Vertex) (m n : ℕ) (p q : Bool)
     (old mid base part rest : List Float) (olds mids bases parts rests : List ℕ)
     → take i (numbered (points v) bs) ≡ us → take j (numbered (points w) cs) ≡ ws → i ≤ most_points + 1 → j ≤ most_points + 1
     → Built (numbered (points (take (3 * i) v)) (take i bs)) (length (take i bs)) old olds m p mid mids
     → Built (numbered (points (take (3 * j) w)) (take j cs)) (length (take j cs)) base bases n q part parts
-    → ((m ≡ length (built_numbered us).vertices) × (p ≡ flag_number (built_numbered us).closed) × (1 ≤ m))
-    × (((n ≡ length (built_numbered ws).vertices) × (q ≡ flag_number (built_numbered ws).closed) × (1 ≤ n))
+    → ((m ≡ length (built_numbered us).vertices) × (p ≡ (built_numbered us).closed) × (1 ≤ m))
+    × (((n ≡ length (built_numbered ws).vertices) × (q ≡ (built_numbered ws).closed) × (1 ≤ n))
     × ((take (m + n) (numbered (points (take (3 * m) mid ++ (part ++ rest))) (take m mids ++ (parts ++ rests)))
     ≡ (built_numbered us).vertices ++ (built_numbered ws).vertices)
     × (m + n ≤ built_room)))

@@ -1,39 +1,38 @@
 -- Laws of a cut: the lists with two pieces in the place of one, the pieces that then stand there, and how many points they have. Assumes nothing.
 use mathlib.Core.Path.{◌≡◌, sym, ap, ap₂, ◌∙◌}
-use mathlib.Core.Bool.{true, not}
+use mathlib.Core.Bool.{Bool, true}
 use mathlib.Core.List.{List, ◌∷◌, ◌++◌, append_assoc}
 use Prim.Native.Nat.{ℕ, ◌+◌, ◌-◌, ◌≤◌, ◌<◌}
 use native.Mathlib.Omega.{arith}
-use lib.Dec.{eqb}
 use lib.ListN.{length, get_or, take, drop, length-drop, length-append}
 use lib.Seq.{length-take-le, take-length, take-take, take_at, drop_at}
 use Rattle.arcstring.specs.declared.inner.vertex.Vertex.{Vertex}
 use Rattle.arcstring.specs.Points.{StringOf}
 use Rattle.arcstring.specs.Splice.{splice}
 use Rattle.arcstring.proofs.Splices.{take_past_splice}
-use Rattle.arcstring_insert.proofs.Shifts.{drop-take}
+use Rattle.std.proofs.lemmas.List.{drop-take}
 use Rattle.arcstring_piece.specs.Pieces.{piece, pieces_of, sum, all_some}
 use Rattle.arcstring.specs.Written.{points_in}
 use Rattle.arcstring_piece.proofs.inner.replace.Sums.{sum-append, sum_split, some_append, some_cons, some_take, some_drop}
 use Rattle.arcstring_piece.proofs.inner.replace.Pieces.{points-append, pieces_append, pieces_same, pieces_before, pieces_after, pieces_points}
 
--- ---- two numbers in the place of number k
+-- ---- two items in the place of item k
 
--- the first m numbers of a list, without number k and with x and y in its place
-abbrev pub replaced : List ℕ → ℕ → ℕ → ℕ → List ℕ
+-- a list without item k and with x and y in its place
+abbrev pub replaced : {A : Type 0} → List A → ℕ → A → A → List A
 replaced l k x y = take k l ++ (x ∷ y ∷ drop (k + 1) l)
 
-pub first_replaced : (l l' : List ℕ) (m k x y : ℕ) → k < m → m ≤ length l → l' ≡ splice l k (x ∷ y ∷ take (m - (k + 1)) (drop (k + 1) l)) →
+pub first_replaced : {A : Type 0} (l l' : List A) (m k : ℕ) (x y : A) → k < m → m ≤ length l → l' ≡ splice l k (x ∷ y ∷ take (m - (k + 1)) (drop (k + 1) l)) →
     take (m + 1) l' ≡ replaced (take m l) k x y
-first_replaced l l' m k x y h room e =
+first_replaced {A} l l' m k x y h room e =
     let rest = take (m - (k + 1)) (drop (k + 1) l) in
     let n : length rest ≡ m - (k + 1) = length-take-le (m - (k + 1)) (drop (k + 1) l) (rw length-drop (omega arith)) in
     let j : m + 1 ≡ k + length (x ∷ y ∷ rest) = omega arith in
     let i : m ≡ (k + 1) + (m - (k + 1)) = omega arith in
     let d : drop (k + 1) (take m l) ≡ rest = ap (λ (z : ℕ). drop (k + 1) (take z l)) i ∙ drop-take (k + 1) (m - (k + 1)) l in
-    ap₂ take j e ∙ take_past_splice l k (x ∷ y ∷ rest) (omega arith) ∙ ap₂ (λ (a b : List ℕ). a ++ (x ∷ y ∷ b)) (sym (take-take k m l (omega arith))) (sym d)
+    ap₂ take j e ∙ take_past_splice l k (x ∷ y ∷ rest) (omega arith) ∙ ap₂ (λ (a b : List A). a ++ (x ∷ y ∷ b)) (sym (take-take k m l (omega arith))) (sym d)
 
-pub replaced-length : (l : List ℕ) (k x y : ℕ) → k < length l → length (replaced l k x y) ≡ length l + 1
+pub replaced-length : {A : Type 0} (l : List A) (k : ℕ) (x y : A) → k < length l → length (replaced l k x y) ≡ length l + 1
 replaced-length l k x y h =
     length-append (take k l) (x ∷ y ∷ drop (k + 1) l) ∙ omega (arith, length-take-le k l (omega arith), length-drop (k + 1) l)
 
@@ -47,7 +46,7 @@ replaced_some l k x y a b s =
 
 -- ---- two pieces in the place of piece k
 
-module _ (cs fs : List ℕ) (ws : List Vertex) (k : ℕ) (same : length cs ≡ length fs) (h : k < length cs) (enough : sum cs ≤ length ws) where
+module _ (cs : List ℕ) (fs : List Bool) (ws : List Vertex) (k : ℕ) (same : length cs ≡ length fs) (h : k < length cs) (enough : sum cs ≤ length ws) where
   abbrev at : ℕ
   at = sum (take k cs)
 
@@ -73,10 +72,10 @@ module _ (cs fs : List ℕ) (ws : List Vertex) (k : ℕ) (same : length cs ≡ l
       (length-drop (k + 1) cs ∙ ap (λ (n : ℕ). n - (k + 1)) same ∙ sym (length-drop (k + 1) fs)) (rw length-drop (omega (arith, in_all))) in
       points-append (take k (pieces_of cs fs ws)) (s ∷ t ∷ drop (k + 1) (pieces_of cs fs ws)) ∙ omega arith
 
-  pub cut_pieces : (x y f g : ℕ) (us vs tail xs : List Vertex) → length us ≡ x → length vs ≡ y →
+  pub cut_pieces : (x y : ℕ) (f g : Bool) (us vs tail xs : List Vertex) → length us ≡ x → length vs ≡ y →
       xs ≡ take at ws ++ ((us ++ vs) ++ (take rest (drop past ws) ++ tail)) →
       pieces_of (replaced cs k x y) (replaced fs k f g) xs
-      ≡ take k (pieces_of cs fs ws) ++ (piece us (not (eqb f 0)) ∷ piece vs (not (eqb g 0)) ∷ drop (k + 1) (pieces_of cs fs ws))
+      ≡ take k (pieces_of cs fs ws) ++ (piece us f ∷ piece vs g ∷ drop (k + 1) (pieces_of cs fs ws))
   unfolding pieces_of
   cut_pieces x y f g us vs tail xs la lb e =
       let run = take rest (drop past ws) in
@@ -94,4 +93,4 @@ module _ (cs fs : List ℕ) (ws : List Vertex) (k : ℕ) (same : length cs ≡ l
       ∙ sym (pieces_after cs fs ws k same h) in
       pieces_append (take k cs) (take k fs) (x ∷ y ∷ drop (k + 1) cs) (f ∷ g ∷ drop (k + 1) fs) xs
       (length-take-le k cs (omega arith) ∙ sym (length-take-le k fs (omega arith)))
-      ∙ (λ i. before i ++ (piece (t1 i) (not (eqb f 0)) ∷ piece (t2 i) (not (eqb g 0)) ∷ after i))
+      ∙ (λ i. before i ++ (piece (t1 i) f ∷ piece (t2 i) g ∷ after i))

@@ -1,4 +1,5 @@
 -- Laws of sums of counts: lists after one another, one count more, and none that is empty. Assumes nothing.
+use Rattle.std.specs.Prelude as Std
 use mathlib.Core.Path.{◌≡◌, refl, sym, ap, ◌∙◌}
 use mathlib.Core.Bool.{true, not, false≢true, and-eq-true_iff}
 use mathlib.Core.List.{List, [], ◌∷◌, ◌++◌}
@@ -9,9 +10,15 @@ use lib.Dec.{eqb}
 use lib.ListN.{length, get_or, take, drop, take-append-drop}
 use lib.Seq.{length-take-le, take-suc, take-take, get_or-take}
 use borrow.Author.Tests.{ne_eqb}
+use Rattle.std.proofs.lemmas.List.Sums.{sum_by-cons}
 use Rattle.arcstring_piece.specs.Pieces.{sum, all_some}
 
 -- ---- sums
+
+-- as the library's `sum` has it, which adds up from the left
+pub sum_is : (l : List ℕ) → Std.sum l ≡ sum l
+sum_is [] = refl
+sum_is (n ∷ l) = sum_by-cons (λ (k : ℕ). k) n l ∙ ap (λ (k : ℕ). n + k) (sum_is l)
 
 pub sum-append : (a b : List ℕ) → sum (a ++ b) ≡ sum a + sum b
 sum-append [] b = omega arith
@@ -20,9 +27,6 @@ sum-append (n ∷ a) b = omega (arith, sum-append a b)
 -- a part of the counts, and all of them
 pub sum_parts : (k : ℕ) (l : List ℕ) → sum l ≡ sum (take k l) + sum (drop k l)
 sum_parts k l = ap sum (sym (take-append-drop k l)) ∙ sum-append (take k l) (drop k l)
-
-pub sum-take-le : (i m : ℕ) (l : List ℕ) → i ≤ m → sum (take i l) ≤ sum (take m l)
-sum-take-le i m l h = omega (arith, sum_parts i (take m l), ap sum (take-take i m l h))
 
 -- one count more
 pub sum-next : (l : List ℕ) (i : ℕ) → i < length l → sum (take (i + 1) l) ≡ sum (take i l) + get_or l i 0

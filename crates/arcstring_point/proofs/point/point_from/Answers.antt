@@ -1,17 +1,14 @@
 -- `point::point_from` refuses as its check does, and else answers as the vector layer does. Assumes nothing.
-use mathlib.Core.Path.{◌∙◌, ap}
+use mathlib.Core.Path.{ap, ◌∙◌}
 use Rattle.arcstring_check.specs.Answer.{answered}
-use Rattle.arcstring_check.specs.Check.{point_check}
-use Rattle.sphericalpoint.specs.Point.{point_from}
+use Rattle.arcstring_check.proofs.Answers.{left, stopped, went_on}
 use Rattle.arcstring_point.specs.Point.{built_point}
-use Rattle.arcstring_check.proofs.Answers.{answer_refused, answer_accepted}
 use Rattle.arcstring_point.proofs.point.point_from.Goals as goal
 
-pub returns-in-Refused : goal.returns-in-Refused
+pub returns-in_err-check_point : goal.returns-in_err-check_point
 unfolding built_point
-returns-in-Refused c = answer_refused _ _ (point_check _) (answered (point_from _)) c.in-Refused.is c.check_point-checked.ensures
+returns-in_err-check_point c = left _ _ c.from_residual.ensures.1 ∙ stopped _ _ _ c.in_err-check_point.ensures
 
-pub returns-in-Accepted : goal.returns-in-Accepted
+pub returns : goal.returns
 unfolding built_point
-returns-in-Accepted c =
-    ap answered c.from.ensures ∙ answer_accepted c.check_point-checked.result (point_check _) _ c.in-Accepted.is c.check_point-checked.ensures
+returns c = ap answered c.from.ensures ∙ went_on _ _ c.in_ok-check_point.ensures

@@ -1,25 +1,31 @@
 -- `point::xyzs_coplanar` refuses as its checks do, and else answers as the vector layer does. Assumes nothing.
-use mathlib.Core.List.{[], ◌∷◌}
-use mathlib.Core.Path.{◌≡◌, ap, ◌∙◌}
-use Rattle.arcstring_check.specs.Answer.{answered, first_of}
-use Rattle.arcstring_check.specs.Check.{check_number, point_check}
+use mathlib.Core.Path.{ap, ◌∙◌}
+use Rattle.arcstring_check.specs.Answer.{answered}
+use Rattle.arcstring_check.proofs.Answers.{left, stopped, went_on}
 use Rattle.arcstring_point.specs.Point.{coplanar_points}
-use Rattle.arcstring_check.proofs.Answers.{refused_in_turn, accepted_in_turn, both_numbers}
 use Rattle.arcstring_point.proofs.point.xyzs_coplanar.Goals as goal
 
-pub returns-in-Refused : goal.returns-in-Refused
+pub returns-in_err-check_point : goal.returns-in_err-check_point
 unfolding coplanar_points
-returns-in-Refused c =
-    let number : check_number c.first_of-checked.result ≡ first_of (point_check c.args.a) (first_of (point_check c.args.b) (point_check c.args.c)) = c.first_of-checked.ensures
-    ∙ both_numbers c.check_point.ensures
-    (c.first_of.ensures ∙ both_numbers c.check_point-2.ensures c.check_point-3.ensures) in
-    refused_in_turn _ _ (point_check _) (point_check _ ∷ point_check _ ∷ []) _ c.in-Refused.is number
+returns-in_err-check_point c = left _ _ c.from_residual.ensures.1 ∙ stopped _ _ _ c.in_err-check_point.ensures
 
-pub returns-in-Accepted : goal.returns-in-Accepted
+pub returns-in_err-check_point-2 : goal.returns-in_err-check_point-2
 unfolding coplanar_points
-returns-in-Accepted c =
-    let number : check_number c.first_of-checked.result ≡ first_of (point_check c.args.a) (first_of (point_check c.args.b) (point_check c.args.c)) = c.first_of-checked.ensures
-    ∙ both_numbers c.check_point.ensures
-    (c.first_of.ensures ∙ both_numbers c.check_point-2.ensures c.check_point-3.ensures) in
+returns-in_err-check_point-2 c =
+    left _ _ c.from_residual-in_err-check_point-2.ensures.1 ∙ stopped _ _ _ c.in_err-check_point-2.ensures ∙ went_on _ _ c.in_ok-check_point.ensures
+
+pub returns-in_err-check_point-3 : goal.returns-in_err-check_point-3
+unfolding coplanar_points
+returns-in_err-check_point-3 c =
+    left _ _ c.from_residual-in_err-check_point-3.ensures.1
+    ∙ stopped _ _ _ c.in_err-check_point-3.ensures
+    ∙ went_on _ _ c.in_ok-check_point-2.ensures
+    ∙ went_on _ _ c.in_ok-check_point.ensures
+
+pub returns : goal.returns
+unfolding coplanar_points
+returns c =
     ap answered c.xyzs_coplanar.ensures
-    ∙ accepted_in_turn _ (point_check _) (point_check _ ∷ point_check _ ∷ []) _ c.in-Accepted.is number
+    ∙ went_on _ _ c.in_ok-check_point-3.ensures
+    ∙ went_on _ _ c.in_ok-check_point-2.ensures
+    ∙ went_on _ _ c.in_ok-check_point.ensures

@@ -1,26 +1,23 @@
 -- `==` refuses as the four lists' checks do, and else compares the strings. Assumes nothing.
-use mathlib.Core.List.{[], ◌∷◌}
 use mathlib.Core.Path.{ap, ◌∙◌}
+use Rattle.arcstring.specs.Points.{ArcString}
 use Rattle.arcstring_check.specs.Answer.{answered}
-use Rattle.arcstring_check.specs.Check.{stored_check}
-use Rattle.arcstring_check.proofs.Answers.{refused_in_turn, accepted_in_turn}
-use Rattle.arcstring_against.specs.Against.{two_strings}
+use Rattle.arcstring_against.specs.Against.{equal_strings}
 use Rattle.arcstring_relation.specs.Relation.{equal}
-use Rattle.arcstring_against.proofs.Against.{four_accepted}
+use Rattle.arcstring_against.proofs.Against.{first_string_refused, second_string_refused, both_strings_accepted}
 use Rattle.arcstring_relation.proofs.relation.eq.Goals as goal
 
-pub equal_strings-requires : goal.equal_strings-requires
-equal_strings-requires c = four_accepted _ c.in-Accepted.is _ _ _ _ c.check_two-checked.ensures
+pub returns-in_err-a : goal.returns-in_err-a
+unfolding equal
+returns-in_err-a c = first_string_refused _ _ _ _ c.from_residual.result _ _ c.from_residual.ensures.1 c.in_err-a.ensures
 
-pub returns-in-Refused : goal.returns-in-Refused
-unfolding equal two_strings
-returns-in-Refused c =
-    refused_in_turn _ _ (stored_check _) (stored_check _ ∷ stored_check _ ∷ stored_check _ ∷ []) _ c.in-Refused.is
-    c.check_two-checked.ensures
+pub returns-in_err-b : goal.returns-in_err-b
+unfolding equal
+returns-in_err-b c =
+    second_string_refused _ _ _ _ c.in_ok-a.a c.in_ok-a.ensures c.from_residual-in_err-b.result _ _ c.from_residual-in_err-b.ensures.1 c.in_err-b.ensures
 
-pub returns-in-Accepted : goal.returns-in-Accepted
-unfolding equal two_strings
-returns-in-Accepted c =
+pub returns : goal.returns
+unfolding equal
+returns c =
     ap answered c.equal_strings.ensures
-    ∙ accepted_in_turn _ (stored_check _) (stored_check _ ∷ stored_check _ ∷ stored_check _ ∷ []) _ c.in-Accepted.is
-    c.check_two-checked.ensures
+    ∙ both_strings_accepted _ _ _ _ c.in_ok-a.a c.in_ok-a.ensures c.in_ok-b.b (λ (s t : ArcString). answered (equal_strings s t)) c.in_ok-b.ensures

@@ -1,23 +1,31 @@
 -- `within` refuses as its checks do, and else answers whether each vertex of the first is along the second. Assumes nothing.
-use mathlib.Core.Path.{ap, ◌∙◌}
-use mathlib.Core.List.{[], ◌∷◌}
+use mathlib.Core.Path.{sym, ap, ◌∙◌}
+use native.Mathlib.Omega.{arith}
+use Rattle.arcstring.specs.Points.{ArcString, points}
 use Rattle.arcstring_check.specs.Answer.{answered}
-use Rattle.arcstring_check.specs.Check.{stored_check}
-use Rattle.arcstring_check.proofs.Answers.{refused_in_turn, accepted_in_turn}
+use Rattle.arcstring_check.proofs.Answers.{left, stopped, went_on}
+use Rattle.arcstring_check.proofs.Checks.{stored_whole}
+use Rattle.arcstring_along.proofs.Accepted.{string_refused, string_accepted}
+use Rattle.arcstring_against.specs.Against.{all_along}
+use Rattle.arcstring_against.proofs.Against.{vertices_along}
 use Rattle.arcstring_relation.specs.Relation.{within}
-use Rattle.arcstring_against.proofs.Against.{three_accepted}
 use Rattle.arcstring_relation.proofs.relation.within.Goals as goal
 
-pub all_along-requires : goal.all_along-requires
-all_along-requires c = three_accepted _ c.in-Accepted.is _ _ _ c.check_three-checked.ensures
-
-pub returns-in-Refused : goal.returns-in-Refused
+pub returns-in_err-check_stored : goal.returns-in_err-check_stored
 unfolding within
-returns-in-Refused c =
-    refused_in_turn _ _ (stored_check _) (stored_check _ ∷ stored_check _ ∷ []) _ c.in-Refused.is c.check_three-checked.ensures
+returns-in_err-check_stored c = left _ _ c.from_residual.ensures.1 ∙ stopped _ _ _ c.in_err-check_stored.ensures
 
-pub returns-in-Accepted : goal.returns-in-Accepted
+pub returns-in_err-b : goal.returns-in_err-b
 unfolding within
-returns-in-Accepted c =
-    ap answered c.all_along.ensures
-    ∙ accepted_in_turn _ (stored_check _) (stored_check _ ∷ stored_check _ ∷ []) _ c.in-Accepted.is c.check_three-checked.ensures
+returns-in_err-b c =
+    string_refused c.from_residual-in_err-b.result _ _ _ _ c.from_residual-in_err-b.ensures.1 c.in_err-b.ensures ∙ went_on _ _ c.in_ok-check_stored.ensures
+
+pub of-requires : goal.of-requires
+of-requires c = omega (arith, (stored_whole _ (sym c.in_ok-check_stored.ensures)).triples)
+
+pub returns : goal.returns
+unfolding within
+returns c =
+    ap answered (vertices_along _ c.of.ensures.0 c.all_along.ensures)
+    ∙ string_accepted c.in_ok-b.b (λ (s : ArcString). answered (all_along (points c.args.a.now) s)) c.in_ok-b.ensures
+    ∙ went_on _ _ c.in_ok-check_stored.ensures

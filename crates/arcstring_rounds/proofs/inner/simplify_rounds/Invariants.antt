@@ -9,8 +9,8 @@ use Rattle.arcstring_rounds.proofs.inner.simplify_rounds.Given as goal
 
 abbrev pub invariant-loop-m : goal.invariant-loop-m
 invariant-loop-m l =
-    (l.m ≤ l.n) × (length l.at ≡ length l.initial.at) × (length l.next ≡ length l.initial.next)
-    × (simplified (point_at l.v) l.closed (take l.m l.at) ≡ simplified (point_at l.v) l.closed (take l.n l.initial.at)) × Within (length l.v / 3) (take l.m l.at)
+    (l.m ≤ length l.at) × (simplified (point_at l.v) l.closed (take l.m l.at) ≡ simplified (point_at l.v) l.closed l.initial.at)
+    × Within (length l.v / 3) (take l.m l.at)
 
 abbrev pub decreases-loop-m : goal.decreases-loop-m
 decreases-loop-m l = l.m

@@ -1,9 +1,10 @@
--- The sign bit is set: by the comparison, and of a zero by one over it. Assumes nothing.
-use Rattle.arcstring_sides.proofs.Signs.{negative_of_zero, negative_of_other}
+-- The sign bit is set: of a NaN it counts as clear. Assumes nothing.
+use mathlib.Core.Path.{◌∙◌}
+use Rattle.arcstring_sides.proofs.Signs.{library_negative, nan_negative}
 use Rattle.arcstring_sides.proofs.inner.is_sign_negative.Goals as goal
 
-pub returns-then-x : goal.returns-then-x
-returns-then-x c = negative_of_zero _ c.if-x.true
+pub returns-then-not-is_nan : goal.returns-then-not-is_nan
+returns-then-not-is_nan c = c.is_sign_negative.ensures ∙ library_negative c.args.x
 
-pub returns : goal.returns
-returns c = negative_of_other _ c.if-x.false
+pub returns-else-not-is_nan : goal.returns-else-not-is_nan
+returns-else-not-is_nan c = nan_negative c.args.x _ c.is_nan.ensures.value c.if-not-is_nan.false

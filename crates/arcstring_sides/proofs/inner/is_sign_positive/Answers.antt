@@ -1,9 +1,10 @@
--- The sign bit is clear: by the comparison, and of a zero by one over it. Assumes nothing.
-use Rattle.arcstring_sides.proofs.Signs.{positive_of_zero, positive_of_other}
+-- The sign bit is clear: of a NaN it counts as set. Assumes nothing.
+use mathlib.Core.Path.{sym, ◌∙◌}
+use Rattle.arcstring_sides.proofs.Signs.{library_positive, nan_positive}
 use Rattle.arcstring_sides.proofs.inner.is_sign_positive.Goals as goal
 
-pub returns-then-x : goal.returns-then-x
-returns-then-x c = positive_of_zero _ c.if-x.true
+pub returns-then-not-is_nan : goal.returns-then-not-is_nan
+returns-then-not-is_nan c = c.is_sign_positive.ensures ∙ library_positive c.args.x (sym c.is_nan.ensures.value ∙ c.if-not-is_nan.true)
 
-pub returns : goal.returns
-returns c = positive_of_other _ c.if-x.false
+pub returns-else-not-is_nan : goal.returns-else-not-is_nan
+returns-else-not-is_nan c = nan_positive c.args.x _ c.is_nan.ensures.value c.if-not-is_nan.false

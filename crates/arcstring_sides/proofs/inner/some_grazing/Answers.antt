@@ -3,18 +3,6 @@ use Rattle.arcstring_sides.specs.Sides.{grazes}
 use Rattle.arcstring_sides.proofs.Signs.{some_tested}
 use Rattle.arcstring_sides.proofs.inner.some_grazing.Goals as goal
 
-pub is_grazing-requires : goal.is_grazing-requires
-is_grazing-requires c = tt
-
-pub is_grazing-requires-2 : goal.is_grazing-requires-2
-is_grazing-requires-2 c = tt
-
-pub is_grazing-requires-3 : goal.is_grazing-requires-3
-is_grazing-requires-3 c = tt
-
-pub is_grazing-requires-4 : goal.is_grazing-requires-4
-is_grazing-requires-4 c = tt
-
 pub returns : goal.returns
 returns c =
     some_tested (grazes _) _ _ _ _ _ c.well_formed.0.1.0.1 c.is_grazing.ensures c.is_grazing-2.ensures

@@ -1,13 +1,9 @@
--- `copy_flags` copies the first m flags, each as 0 or 1: after i turns the first i are written. Assumes nothing.
+-- `copy_flags` copies the flags, each as 0 or 1: after i turns the first i are written. Assumes nothing.
 use mathlib.Core.Path.{◌≡◌}
-use Prim.Native.Nat.{◌-◌, ◌≤◌}
-use lib.ListN.{length, take}
+use lib.ListN.{take}
 use Rattle.arcstring.specs.Splice.{splice}
 use Rattle.arcstring_split.specs.Handed.{flags_of}
 use Rattle.arcstring_split.proofs.split.copy_flags.Given as goal
 
 abbrev pub invariant-loop-i : goal.invariant-loop-i
-invariant-loop-i l = (l.i ≤ l.m) × (length l.out ≡ length l.initial.out) × (l.out ≡ splice l.initial.out 0 (flags_of (take l.i l.list)))
-
-abbrev pub decreases-loop-i : goal.decreases-loop-i
-decreases-loop-i l = l.m - l.i
+invariant-loop-i l = l.out ≡ splice l.initial.out 0 (flags_of (take l.i l.closed))

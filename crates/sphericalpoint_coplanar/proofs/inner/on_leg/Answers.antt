@@ -15,9 +15,11 @@ returns-then-not-between_ends c =
 
 pub returns-then-normal_length : goal.returns-then-normal_length
 returns-then-normal_length c =
-    no_plane _ _ _ c.xyz_cross-normal.result c.root_of_squares-normal_length.result c.xyz_cross-normal.ensures c.root_of_squares-normal_length.ensures (ap (lt c.root_of_squares-normal_length.result) (sym coplanar_bits) ∙ c.if-normal_length.true)
+    no_plane _ _ _ c.xyz_cross-normal.result c.root_of_squares-normal_length.result c.xyz_cross-normal.ensures c.root_of_squares-normal_length.ensures
+    (ap (lt c.root_of_squares-normal_length.result) (sym coplanar_bits) ∙ c.if-normal_length.true)
 
 pub returns : goal.returns
 returns c =
-    in_plane _ _ _ c.xyz_cross-normal.result c.root_of_squares-normal_length.result c.xyz_cross-normal.ensures c.root_of_squares-normal_length.ensures _ c.between_in_plane.ensures
+    in_plane _ _ _ c.xyz_cross-normal.result c.root_of_squares-normal_length.result c.xyz_cross-normal.ensures c.root_of_squares-normal_length.ensures _
+    c.between_in_plane.ensures
     (ap (lt c.root_of_squares-normal_length.result) (sym coplanar_bits) ∙ c.if-normal_length.false)

@@ -1,36 +1,27 @@
 -- The fewest decimal digits that hold a number are its decimal text. Assumes nothing.
-use mathlib.Core.Path.{◌≡◌, refl, sym, ap, subst, ◌∙◌}
+use mathlib.Core.Path.{◌≡◌, refl, sym, ap, ◌∙◌}
 use mathlib.Core.Bool.{Bool, true, false}
 use mathlib.Core.List.{List, [], ◌∷◌, ◌++◌}
-use Prim.Native.Nat.{ℕ, zero, suc, ◌+◌, ◌-◌, ◌*◌, ◌/◌, ◌%◌, ◌^◌, ◌≤◌, ◌<◌}
-use native.Mathlib.Nat.{pow-suc, one-le-pow, pow-le-pow_right, div-div-eq-div-mul, le-div_iff_mul-le, div-lt_iff_lt-mul}
+use Prim.Native.Nat.{ℕ, zero, suc, ◌+◌, ◌-◌, ◌*◌, ◌/◌, ◌%◌, ◌^◌, ◌≤◌, ◌<◌, max}
+use native.Mathlib.Nat.{pow-suc, one-le-pow, pow-le-pow_right}
 use native.Mathlib.Numerals.{add-one}
 use native.Mathlib.Omega.{arith}
-use lib.ListN.{take}
 use lib.Dec.{ltb}
 use borrow.Author.Tests.{lt-ltb, le-ltb, ltb-true, ltb-false}
 use Rattle.arcstring_check.specs.Answer.{pick}
 use Rattle.textform.specs.Digits.{last_digits, IsDigitCount}
 use Rattle.textform.specs.Print.{most_digits, decimal_within, decimal}
 
--- ---- powers of 10
+-- ---- how many digits
 
-pub div_pow_one : (n : ℕ) → n / 10 ≡ n / 10 ^ 1
-div_pow_one n = refl
-
-pub div_pow_div : (n k : ℕ) → n / 10 ^ k / 10 ≡ n / 10 ^ (k + 1)
-div_pow_div n k = div-div-eq-div-mul n (10 ^ k) 10 ∙ ap (λ (d : ℕ). n / d) (sym (pow-suc 10 k) ∙ ap (λ (j : ℕ). 10 ^ j) (sym (add-one k)))
-
--- something is left of n after k digits, so one more is wanted
-pub pow_le_of_some_left : (n k : ℕ) → 0 < n / 10 ^ k → 10 ^ (k + 1 - 1) ≤ n
-pow_le_of_some_left n k some =
-    let e : k ≡ k + 1 - 1 = omega arith in
-    let p : 1 * 10 ^ k ≤ n = (le-div_iff_mul-le (one-le-pow k 10 (omega arith))).0 some in
-    subst (λ (j : ℕ). 10 ^ j ≤ n) e (omega arith)
-
--- nothing is left, so k digits hold it
-pub lt_pow_of_none_left : (n k : ℕ) → n / 10 ^ k < 1 → n < 10 ^ k
-lt_pow_of_none_left n k none = let p : n < 1 * 10 ^ k = (div-lt_iff_lt-mul (one-le-pow k 10 (omega arith))).0 none in omega arith
+-- one more than the logarithm to base 10, and one for 0
+pub by_logarithm : (n m k : ℕ) → m ≡ max n 1 → 10 ^ k ≤ m → m < 10 * 10 ^ k → IsDigitCount n (k + 1)
+by_logarithm n m k e low high =
+    let p = pow-suc 10 k in
+    let front : k + 1 - 1 ≡ k = omega arith in
+    let least : 1 < k + 1 → 10 ^ k ≤ n = λ some. let more : 10 ^ 1 ≤ 10 ^ k = pow-le-pow_right {n = 10} (omega arith) {i = 1} {j = k} (omega arith) in
+    omega arith in
+    (omega arith, rw add-one (omega arith), rw front least)
 
 -- ---- the fewest digits
 
@@ -79,6 +70,6 @@ module _ (k n : ℕ) (h : n < 2 ^ 64) (f : IsDigitCount n k) where
   fewest_few = few_by (ltb most_digits k) refl
 
 -- the digits that are written of a 64-bit number
-pub decimal_digits : (k n : ℕ) (out : List ℕ) → n < 2 ^ 64 → IsDigitCount n k → take k out ≡ last_digits k n → (k ≤ most_digits) × (take k out ≡ decimal n)
+pub decimal_digits : (k n : ℕ) → n < 2 ^ 64 → IsDigitCount n k → last_digits k n ≡ decimal n
 unfolding decimal
-decimal_digits k n out h f e = let few = fewest_few k n h f in (few, e ∙ fewest_decimal k most_digits n few f)
+decimal_digits k n h f = fewest_decimal k most_digits n (fewest_few k n h f) f

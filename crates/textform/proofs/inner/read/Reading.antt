@@ -2,7 +2,7 @@
 use mathlib.Core.Path.{◌≡◌, sym, ap, ◌∙◌, subst}
 use mathlib.Core.Bool.{Bool, true, false}
 use mathlib.Core.List.{List}
-use mathlib.Core.Option.{none, some}
+use mathlib.Core.Option.{some}
 use Prim.Native.Nat.{ℕ, ◌+◌, ◌*◌, ◌^◌, ◌≤◌, ◌<◌}
 use native.Mathlib.Omega.{arith}
 use lib.ListN.{take}
@@ -10,11 +10,9 @@ use lib.Ieee.{Float}
 use Rattle.arcstring_check.specs.Answer.{pick}
 use Rattle.textform.specs.declared.inner.read.Part.{Part}
 use Rattle.textform.specs.declared.inner.read.Part.TheVariants as P
-use Rattle.textform.specs.declared.inner.read.Digit.{Digit}
-use Rattle.textform.specs.declared.inner.read.Digit.TheVariants as D
 use Rattle.textform.specs.declared.inner.read.Reader.{Reader}
 use Rattle.textform.specs.Text.{row_last, malformed_place, State, part_at, place_after, hex_digit, onward, with_float, step_at, step_with}
-use Rattle.textform.specs.Kept.{floats_kept, digit_value, keep, held_state, digits_before, Sound, Becomes}
+use Rattle.textform.specs.Kept.{floats_kept, keep, held_state, digits_before, Sound, Becomes}
 use Rattle.textform.proofs.inner.read.Digits.{digit_small}
 use Rattle.textform.proofs.inner.read.Places.{rule_at, after_within, digits_few, some_power, word_next, word_fits}
 
@@ -28,13 +26,13 @@ module _ (r : Reader) (sound : Sound r) (x : Float) (place n : ℕ) (a b : List 
 
     -- kept for B, whose list is b' then
     pub second_kept : (b' : List Float) → r.second ≡ true → take n b' ≡ keep x (take r.b b)
-        → (let q : Reader = record { place = place; second = true; word = 0; a = r.a; b = n } in
+        → (let q : Reader = record { place = place; second = r.second; word = 0; a = r.a; b = n } in
         Sound q × (held_state q a b' ≡ with_float keep x (held_state r a b)))
     second_kept b' h k = (
       record { place = next-within; word = some_power (digits_before place); a = sound.a; b = few },
       λ i. record {
         place = after i;
-        second = sym h i;
+        second = r.second;
         word = 0;
         a = pick (sym h i) (take r.a a) (keep x (take r.a a));
         b = pick (sym h i) (k i) (take r.b b);
@@ -43,13 +41,13 @@ module _ (r : Reader) (sound : Sound r) (x : Float) (place n : ℕ) (a b : List 
 
     -- for A, whose list is a' then
     pub first_kept : (a' : List Float) → r.second ≡ false → take n a' ≡ keep x (take r.a a)
-        → (let q : Reader = record { place = place; second = false; word = 0; a = n; b = r.b } in
+        → (let q : Reader = record { place = place; second = r.second; word = 0; a = n; b = r.b } in
         Sound q × (held_state q a' b ≡ with_float keep x (held_state r a b)))
     first_kept a' h k = (
       record { place = next-within; word = some_power (digits_before place); a = few; b = sound.b },
       λ i. record {
         place = after i;
-        second = sym h i;
+        second = r.second;
         word = 0;
         a = pick (sym h i) (take r.a a) (k i);
         b = pick (sym h i) (keep x (take r.b b)) (take r.b b);
@@ -70,14 +68,6 @@ onward-held r place second word sound l w e = (
   },
   λ a b i. record { place = e i; second = second; word = word; a = take r.a a; b = take r.b b },
 )
-
--- a digit's value, and none, as the code takes the answer apart
-module _ (byte : ℕ) {g : Digit} (read : digit_value g ≡ hex_digit byte) where
-  pub digit_value_lem : {d : ℕ} → g ≡ D.Value d → hex_digit byte ≡ some d
-  digit_value_lem h = sym read ∙ ap digit_value h
-
-  pub digit_none : g ≡ D.None → hex_digit byte ≡ none
-  digit_none h = sym read ∙ ap digit_value h
 
 -- the digits so far, and one more of them, w as the code has it
 module _ (r : Reader) (sound : Sound r) where

@@ -10,13 +10,11 @@ use lib.Seq.{take_at}
 use lib.Ieee.{Float, lt}
 use Rattle.sphericalpoint.specs.declared.SphericalPoint.{SphericalPoint}
 use Rattle.arcstring_check.specs.declared.check.Refusal.{Refusal}
-use Rattle.arcstring_build.specs.declared.build.Built.{Built}
-use Rattle.arcstring_build.specs.declared.build.Built.TheVariants as B
 use Rattle.arcstring.specs.declared.inner.vertex.Vertex.{Vertex}
 use Rattle.arcstring_check.specs.Answer.{Answer, refused, answered, unless_refused, map_answer, leaves, refusal_number}
 use Rattle.arcstring.specs.Points.{StringOf, ArcString, place_of, unnumbered, points, flat}
 use Rattle.arcstring_check.specs.Check.{stored_check, build_check, margin_check, no_margin, room_check, most_floats}
-use Rattle.arcstring_build.specs.Build.{built_string, build, built_answer, built_result, built_floats}
+use Rattle.arcstring_build.specs.Build.{built_string, build, built_result, built_floats}
 use Rattle.arcstring_build.specs.BuildLaws.{AllF64}
 use Rattle.arcstring_check.proofs.Answers.{refuse, pass}
 use Rattle.arcstring_check.proofs.Rooms.{room_enough}
@@ -89,15 +87,15 @@ module _ (v : List Float) where
       left ∙ ap (λ (a : Answer (List Float)). leaves a old) (same-floats (build v none room buoy_room) ∙ ap plain_floats plain),
     )
 
-  module _ (r : Built) (old out : List Float) (answer : built_answer r ≡ built_result (plain_build v)) (left : out ≡ leaves (plain_floats (plain_build v)) old) where
-    pub build_refused : (e : Refusal) → r ≡ B.Refused e → build_check v ≡ refusal_number e
-    unfolding plain_build
-    build_refused e told = told_refused (refusal_number e) (build_check v) string (sym (ap built_answer told) ∙ answer)
+  pub build_refused : (e : Refusal) → refused (refusal_number e) ≡ built_result (plain_build v) → build_check v ≡ refusal_number e
+  unfolding plain_build
+  build_refused e answer = told_refused (refusal_number e) (build_check v) string answer
 
-    pub build_stands : (n : ℕ) (closed : Bool) → r ≡ B.String n closed → BuiltHere v n closed out
+  module _ (old out : List Float) (left : out ≡ leaves (plain_floats (plain_build v)) old) where
+    pub build_stands : (n : ℕ) (closed : Bool) → answered (n, closed) ≡ built_result (plain_build v) → BuiltHere v n closed out
     unfolding plain_build
-    build_stands n closed told =
-        let t = told_built (build_check v) string n closed (sym (ap built_answer told) ∙ answer) in
+    build_stands n closed answer =
+        let t = told_built (build_check v) string n closed answer in
         let few = built_count_lem v t.0 in
         let written : out ≡ flat string.vertices ++ drop (length (flat string.vertices)) old =
         left ∙ ap (λ (x : Answer ArcString). leaves (plain_floats x) old) (pass (build_check v) (answered string) t.0) in
@@ -119,13 +117,14 @@ unfolding margin_check lt
 none_passes = refl
 
 module _ (a b : List Float) where
-  pub first_refused : (e : Refusal) (n : ℕ) → n ≡ refusal_number e → build_check a ≡ refusal_number e → refused n ≡ count_built a b
+  pub first_refused : (e : Refusal) → refused (refusal_number e) ≡ built_result (plain_build a) → refused (refusal_number e) ≡ count_built a b
   unfolding count_built
-  first_refused e n h g = ap refused h ∙ refuse e (build_check a) _ g
+  first_refused e answer = refuse e (build_check a) _ (build_refused a e answer)
 
-  pub second_refused : (e : Refusal) (n : ℕ) → n ≡ refusal_number e → build_check a ≡ 0 → build_check b ≡ refusal_number e → refused n ≡ count_built a b
+  pub second_refused : (e : Refusal) → build_check a ≡ 0 → refused (refusal_number e) ≡ built_result (plain_build b)
+      → refused (refusal_number e) ≡ count_built a b
   unfolding count_built
-  second_refused e n h ok g = ap refused h ∙ refuse e (build_check b) _ g ∙ sym (pass (build_check a) _ ok)
+  second_refused e ok answer = refuse e (build_check b) _ (build_refused b e answer) ∙ sym (pass (build_check a) _ ok)
 
   -- what is built is not refused by the counting call
   pub both_counted : (n m : ℕ) (closed other : Bool) (x y : List Float) → AllF64 a → AllF64 b → BuiltHere a n closed x → BuiltHere b m other y

@@ -27,7 +27,8 @@ module _ (n d : ℕ) where
 
     module _ (Some-number : number ≡ 0 → ⊥) where
       pub too_large : most_tracks < number → none ≡ with_digit n d
-      too_large h = by_tests_lem (lt-ltb d 10 digit) (ne_eqb (10 * n + d) 0 (λ e. Some-number (is ∙ e))) (ap (ltb most_tracks) (sym is) ∙ lt-ltb most_tracks number h)
+      too_large h = by_tests_lem (lt-ltb d 10 digit) (ne_eqb (10 * n + d) 0 (λ e. Some-number (is ∙ e))) (ap (ltb most_tracks) (sym is)
+          ∙ lt-ltb most_tracks number h)
 
       pub one_digit_more_lem : number ≤ most_tracks → some (C.Number number) ≡ with_digit n d
       one_digit_more_lem h =

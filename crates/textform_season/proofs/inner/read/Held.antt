@@ -1,4 +1,5 @@
 -- What is held after a byte: with another row and another first column, with one track more, and by the tests of the code. Assumes nothing.
+use Rattle.std.specs.Prelude.{Result}
 use mathlib.Core.Path.{◌≡◌, refl, sym, ap, ◌∙◌, subst}
 use mathlib.Core.Bool.{Bool, true, false}
 use mathlib.Core.List.{List}
@@ -18,11 +19,12 @@ use Rattle.textform_report.specs.Permille.{most_tracks}
 use Rattle.textform_report.specs.Report.{Report}
 use Rattle.textform_season.specs.declared.inner.column.Column.{Column}
 use Rattle.textform_season.specs.declared.inner.column.Column.TheVariants as C
-use Rattle.textform_season.specs.declared.inner.track.Tracks.{Tracks}
 use Rattle.textform_season.specs.declared.inner.read.Reading.{Reading}
 use Rattle.textform_season.specs.Season.{Season, malformed, in_column, on_in_row, limit_row, all_done, next_track, track_row, row_of, in_text, column_after}
 use Rattle.textform_season.specs.Season.{step_with}
 use Rattle.textform_season.specs.Kept.{ColumnSound, end_track, held_tracks, TracksSound, held_season, SeasonSound, Becomes}
+use Rattle.arcstring_check.specs.declared.check.Refusal.{Refusal}
+use Rattle.textform_season.specs.declared.inner.track.Lines.{Lines}
 
 abbrev Held : Type 0
 Held = Season (Answer Report)
@@ -83,7 +85,7 @@ module _ (r : Reading) (limit track : List Float) (out : List ℕ) where
       with_last = end_track (take r.row.a limit) (take r.row.b track) r.last (held_tracks r.tracks out)
 
   -- the next one begins
-  pub next-held : (tracks : Tracks) (row : Reader) (out' : List ℕ) → r.last < most_tracks → TracksSound tracks r.last
+  pub next-held : (tracks : Result Lines Refusal) (row : Reader) (out' : List ℕ) → r.last < most_tracks → TracksSound tracks r.last
       → held_tracks tracks out' ≡ all_done end_track (held_season r limit track out) → Text.Becomes r.row without_second row
       → (let q : Reading = record { row = row; column = C.Empty; last = r.last + 1; tracks = tracks } in
       SeasonSound q × (held_season q limit track out' ≡ next_track end_track (held_season r limit track out)))

@@ -1,4 +1,5 @@
 -- What is printed when the input has ended, as the code takes it apart. Assumes nothing.
+use Rattle.std.specs.Prelude.{Result, Ok, Err}
 use mathlib.Core.Path.{◌≡◌, refl, sym, ap, ◌∙◌}
 use mathlib.Core.Bool.{Bool, true, false, ◌&&◌}
 use mathlib.Core.List.{List}
@@ -15,28 +16,23 @@ use Rattle.textform.specs.Text.{row_start}
 use Rattle.textform.specs.Text as Text
 use Rattle.textform.specs.Print.{refusal_text}
 use Rattle.textform_report.specs.Report.{Report}
-use Rattle.textform_season.specs.declared.inner.column.Column.{Column}
-use Rattle.textform_season.specs.declared.inner.column.Column.TheVariants as C
-use Rattle.textform_season.specs.declared.inner.track.Tracks.{Tracks}
-use Rattle.textform_season.specs.declared.inner.track.Tracks.TheVariants as T
 use Rattle.textform_season.specs.Season.{Season, well_formed, is_empty, all_done}
 use Rattle.textform_season.specs.Output.{output}
 use Rattle.textform_season.specs.Kept.{TracksSound, end_track, kept_start, kept_fed, kept_answer, printed_report}
 use Rattle.textform_season.proofs.KeptSeasons.{kept_output}
+use Rattle.textform_season.specs.declared.inner.track.Lines.{Lines}
 
 -- what is enough for some tracks is enough for more
-pub more_tracks : (t : Tracks) (k m : ℕ) → k ≤ m → TracksSound t k → TracksSound t m
-more_tracks (T.Refused n) k m h s = tt
-more_tracks (T.Counted l) k m h s = let room = s.room in
-    let pairs = s.pairs in
-    record { room = omega arith; pairs = omega arith }
+pub more_tracks : (t : Result Lines Refusal) (k m : ℕ) → k ≤ m → TracksSound t k → TracksSound t m
+more_tracks (Err n) k m h s = tt
+more_tracks (Ok l) k m h s = let room = s.room in let pairs = s.pairs in record { room = omega arith; pairs = omega arith }
 
 -- ---- the limit
 
 module _ (text : List ℕ) (limit : List Float) (tracks : Answer Report) where
-  pub limit_refused : (e : Refusal) (n : ℕ) → n ≡ refusal_number e → build_check limit ≡ refusal_number e → text ≡ refusal_text n
+  pub limit_refused : (e : Refusal) → build_check limit ≡ refusal_number e → text ≡ refusal_text (refusal_number e)
       → text ≡ printed_report (unless_refused (build_check limit) tracks)
-  limit_refused e n is check h = h ∙ ap refusal_text is ∙ ap printed_report (refuse e (build_check limit) tracks check)
+  limit_refused e check h = h ∙ ap printed_report (refuse e (build_check limit) tracks check)
 
   pub limit_accepted : (x : Answer Report) → x ≡ tracks → build_check limit ≡ 0 → text ≡ printed_report x
       → text ≡ printed_report (unless_refused (build_check limit) tracks)
@@ -56,12 +52,12 @@ module _ (s : Season (Answer Report)) (text : List ℕ) where
   pub within_row : (s.text.place ≡ row_start → ⊥) → text ≡ refusal_text 8 → text ≡ printed_report (kept_answer s)
   within_row h e = e ∙ by_tests_lem (ne_eqb s.text.place row_start h) refl
 
-  module _ (start : s.text.place ≡ row_start) (column : Column) (told : s.column ≡ column) where
-    pub within_column : is_empty column ≡ false → text ≡ refusal_text 8 → text ≡ printed_report (kept_answer s)
-    within_column h e = e ∙ by_tests_lem (eq-eqb s.text.place row_start start) (ap is_empty told ∙ h)
+  module _ (start : s.text.place ≡ row_start) where
+    pub within_column : is_empty s.column ≡ false → text ≡ refusal_text 8 → text ≡ printed_report (kept_answer s)
+    within_column h e = e ∙ by_tests_lem (eq-eqb s.text.place row_start start) h
 
-    pub at_row_start : is_empty column ≡ true → text ≡ printed_report counted → text ≡ printed_report (kept_answer s)
-    at_row_start h e = e ∙ by_tests_lem (eq-eqb s.text.place row_start start) (ap is_empty told ∙ h)
+    pub at_row_start : is_empty s.column ≡ true → text ≡ printed_report counted → text ≡ printed_report (kept_answer s)
+    at_row_start h e = e ∙ by_tests_lem (eq-eqb s.text.place row_start start) h
 
 -- ---- the whole input
 

@@ -9,9 +9,7 @@ use Rattle.arcstring_check.specs.Answer.{refused, answered, map_answer}
 use Rattle.arcstring_tally.specs.declared.counts.Counts.{Counts}
 use Rattle.arcstring_tally.specs.Pairs.{total}
 use Rattle.same_crossings.specs.CountLaws.{add_counts, sum_of_counts}
-use Rattle.textform_count.specs.declared.inner.count.Conclusion.{Conclusion}
-use Rattle.textform_count.specs.declared.inner.count.Conclusion.TheVariants as O
-use Rattle.textform_count.specs.Count.{count_built, conclusion_answer}
+use Rattle.textform_count.specs.Count.{count_built}
 use Rattle.textform.specs.Print.{decimal}
 use Rattle.arcstring_visit.specs.Visit.{most_pairs}
 use Rattle.textform_report.specs.Report.{line_room, heading_length, report_heading, report_line, track_lines, sums_of, Report, report_for, with_track}
@@ -43,12 +41,10 @@ module _ (lines : Lines) (n : ℕ) (c : Counts) (some-track : 1 ≤ n) (sound : 
       sum_added = omega arith
 
 -- the track counted, or refused: o as the code takes the answer apart
-module _ (limit track : List Float) (n : ℕ) (r : Report) (o : Conclusion) (answer : conclusion_answer o ≡ count_built track limit) where
-  pub is_counted : (c : Counts) → o ≡ O.Counts c → count_built track limit ≡ answered c
-  is_counted c told = sym answer ∙ ap conclusion_answer told
+module _ (limit track : List Float) (n : ℕ) (r : Report) where
+  pub track_counted : (c : Counts) (x : Report) → answered c ≡ count_built track limit → x ≡ with_track n r c
+      → answered x ≡ end_track limit track n (answered r)
+  track_counted c x told e = ap answered e ∙ ap (map_answer (with_track n r)) told
 
-  pub track_counted : (c : Counts) (x : Report) → o ≡ O.Counts c → x ≡ with_track n r c → answered x ≡ end_track limit track n (answered r)
-  track_counted c x told e = ap answered e ∙ ap (map_answer (with_track n r)) (sym (is_counted c told))
-
-  pub track_refused : (e : ℕ) → o ≡ O.Refused e → refused e ≡ end_track limit track n (answered r)
-  track_refused e told = ap (map_answer (with_track n r)) (sym (ap conclusion_answer told) ∙ answer)
+  pub track_refused : (e : ℕ) → refused e ≡ count_built track limit → refused e ≡ end_track limit track n (answered r)
+  track_refused e told = ap (map_answer (with_track n r)) told

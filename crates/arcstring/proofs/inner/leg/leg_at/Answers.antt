@@ -8,5 +8,6 @@ use Rattle.arcstring.proofs.inner.leg.leg_at.Goals as goal
 
 pub returns : goal.returns
 returns c =
-    c.leg_between.ensures ∙ ap (λ (j : ℕ). leg (point_at c.args.v.now c.args.k) (point_at c.args.v.now j)) c.position_after.ensures.0
-    ∙ leg_after c.args.v.now c.args.n c.args.k
+    c.leg_between.ensures
+    ∙ ap (λ (j : ℕ). leg (point_at c.args.string.v.now c.args.k) (point_at c.args.string.v.now j)) c.position_after.ensures.0
+    ∙ leg_after c.args.string.v.now c.args.string.n c.args.k

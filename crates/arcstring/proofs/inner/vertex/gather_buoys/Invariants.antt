@@ -1,14 +1,10 @@
 -- `gather_buoys` writes the numbers at the positions: after i turns those of the first i. Assumes nothing.
 use mathlib.Core.Path.{◌≡◌}
-use Prim.Native.Nat.{◌-◌, ◌≤◌}
 use mathlib.Core.List.{map}
-use lib.ListN.{length, take}
+use lib.ListN.{take}
 use Rattle.arcstring.specs.Splice.{splice}
 use Rattle.arcstring.specs.Positions.{buoy_at}
 use Rattle.arcstring.proofs.inner.vertex.gather_buoys.Given as goal
 
 abbrev pub invariant-loop-i : goal.invariant-loop-i
-invariant-loop-i l = (l.i ≤ length l.at) × (length l.out ≡ length l.initial.out) × (l.out ≡ splice l.initial.out 0 (map (buoy_at l.buoys) (take l.i l.at)))
-
-abbrev pub decreases-loop-i : goal.decreases-loop-i
-decreases-loop-i l = length l.at - l.i
+invariant-loop-i l = l.out ≡ splice l.initial.out 0 (map (buoy_at l.buoys) (take l.i l.at))

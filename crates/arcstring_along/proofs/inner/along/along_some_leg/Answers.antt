@@ -1,21 +1,17 @@
--- The walk over the legs. The loop's invariant: the point is along one of the legs from k on exactly if it is along one of all. Assumes nothing.
-use mathlib.Core.Path.{refl, ◌∙◌}
-use Prim.Native.Nat.{◌-◌}
-use Rattle.arcstring_along.proofs.AlongLegs.{along_here, along_later, along_none}
+-- The walk over the legs, by position. Assumes nothing.
+use mathlib.Core.Path.{refl}
+use mathlib.Core.Bool.{true, false}
+use native.Mathlib.Omega.{arith}
+use Rattle.std.proofs.Common.{rules}
+use borrow.Author.Tests.{tests}
+use Rattle.std.proofs.lemmas.Iterator.{YieldsList-from_range, cases_from_any}
+use Rattle.arcstring_along.proofs.ByPosition.{any_in_range}
+use Rattle.arcstring_along.proofs.AlongLegs.{LegTold, along_by_position}
 use Rattle.arcstring_along.proofs.inner.along.along_some_leg.Goals as goal
 
-pub loop-k-init : goal.loop-k-init
-loop-k-init c = refl
-
-pub returns-then-along_leg_at : goal.returns-then-along_leg_at
-returns-then-along_leg_at c =
-    along_here _ c.args.v.now _ c.requires.0 _ _ _ c.loop-k-test.true c.requires.1 c.along_leg_at.ensures c.if-along_leg_at.true
-    ∙ c.loop-k.invariant
-
-pub loop-k-preserved : goal.loop-k-preserved
-loop-k-preserved c =
-    along_later _ c.args.v.now _ c.requires.0 _ _ _ c.loop-k-test.true c.requires.1 c.along_leg_at.ensures c.if-along_leg_at.false
-    ∙ c.loop-k.invariant
-
 pub returns : goal.returns
-returns c = along_none _ c.args.v.now _ _ c.loop-k-test.false ∙ c.loop-k.invariant
+returns c =
+    along_by_position _ c.args.string _ c.requires _
+    (any_in_range _ _ _ _
+    (cases_from_any _ _ _ (LegTold c.args.p c.args.string true) (LegTold c.args.p c.args.string false) c.any.ensures.ran
+    (YieldsList-from_range 0 c.args.l c.args.l refl (omega arith)) (λ x q k. search (rules, tests)) (λ x q k. search (rules, tests))))

@@ -3,18 +3,6 @@ use Rattle.arcstring_crossing.specs.Plane.{plane_sides}
 use Rattle.arcstring_sides.proofs.Signs.{four_alike}
 use Rattle.arcstring_crossing.proofs.inner.planes.side_values.Goals as goal
 
-pub xyz_dot-requires : goal.xyz_dot-requires
-xyz_dot-requires c = tt
-
-pub xyz_dot-requires-2 : goal.xyz_dot-requires-2
-xyz_dot-requires-2 c = tt
-
-pub xyz_dot-requires-3 : goal.xyz_dot-requires-3
-xyz_dot-requires-3 c = tt
-
-pub xyz_dot-requires-4 : goal.xyz_dot-requires-4
-xyz_dot-requires-4 c = tt
-
 pub returns : goal.returns
 unfolding plane_sides
 returns c =

@@ -1,22 +1,13 @@
--- The walk over the legs. The loop's invariant: the first leg from k on that holds the mark is the first one of all. Assumes nothing.
-use mathlib.Core.Path.{◌∙◌}
-use Prim.Native.Nat.{◌-◌}
-use Rattle.arcstring_along.proofs.FirstFound.{from_start}
-use Rattle.arcstring_mark.proofs.HoldingLegs.{holds_here, holds_later, holds_none}
+-- The walk over the legs, by position. Assumes nothing.
+use mathlib.Core.Bool.{true, false}
+use Rattle.std.proofs.Common.{rules}
+use borrow.Author.Tests.{tests}
+use Rattle.std.proofs.lemmas.Iterator.{first_from_Range}
+use Rattle.arcstring_mark.proofs.HoldingLegs.{LegTold, holds_by_position}
 use Rattle.arcstring_mark.proofs.inner.holds.first_leg.Goals as goal
 
-pub loop-k-init : goal.loop-k-init
-loop-k-init c = from_start _
-
-pub returns-then-leg_at_holds : goal.returns-then-leg_at_holds
-returns-then-leg_at_holds c =
-    holds_here _ c.args.v.now _ c.requires.0 _ _ c.loop-k-test.true c.requires.1 _ c.leg_at_holds.ensures c.if-leg_at_holds.true
-    ∙ c.loop-k.invariant
-
-pub loop-k-preserved : goal.loop-k-preserved
-loop-k-preserved c =
-    holds_later _ c.args.v.now _ c.requires.0 _ _ c.loop-k-test.true c.requires.1 _ c.leg_at_holds.ensures c.if-leg_at_holds.false
-    ∙ c.loop-k.invariant
-
 pub returns : goal.returns
-returns c = holds_none _ c.args.v.now _ _ c.loop-k-test.false ∙ c.loop-k.invariant
+returns c =
+    holds_by_position _ c.args.string _ c.requires _
+    (first_from_Range _ _ _ _ (LegTold c.args.p c.args.string true) (LegTold c.args.p c.args.string false) c.find.ensures.ran (λ x q k. search (rules, tests))
+    (λ x q k. search (rules, tests)))

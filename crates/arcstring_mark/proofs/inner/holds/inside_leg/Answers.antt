@@ -23,4 +23,5 @@ returns c =
 
 pub returns-then-length : goal.returns-then-length
 returns-then-length c =
-    no_inside _ _ _ c.xyz_cross-normal.result c.root_of_squares-length.result c.xyz_cross-normal.ensures c.root_of_squares-length.ensures (ap (lt c.root_of_squares-length.result) (sym coplanar_bits) ∙ c.if-length.true)
+    no_inside _ _ _ c.xyz_cross-normal.result c.root_of_squares-length.result c.xyz_cross-normal.ensures c.root_of_squares-length.ensures
+    (ap (lt c.root_of_squares-length.result) (sym coplanar_bits) ∙ c.if-length.true)

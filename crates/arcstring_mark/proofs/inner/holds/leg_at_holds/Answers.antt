@@ -4,5 +4,4 @@ use Rattle.arcstring_mark.proofs.inner.holds.leg_at_holds.Goals as goal
 
 pub returns : goal.returns
 returns c =
-    vertices_tested c.args.p c.args.v.now c.args.n c.args.k _ _ _ _ c.position_after-next.ensures.0 c.vertex_at-a.ensures c.vertex_at-b.ensures
-    c.leg_holds.ensures
+    vertices_tested c.args.p c.args.string.v.now _ _ _ _ _ _ c.position_after-next.ensures.0 c.at-a.ensures c.at-b.ensures c.leg_holds.ensures

@@ -5,5 +5,5 @@ use Rattle.arcstring_piece.proofs.inner.piece.first_points.Goals as goal
 
 pub returns : goal.returns
 returns c =
-    first_written c.args.v.now c.args.buoys.now c.args.i c.args.x c.requires.0 c.requires.1 _ _ _ _ _ (omega arith)
-    c.copy_run.ensures c.copy_buoys.ensures c.put_vertex.ensures
+    first_written c.args.string.v.now c.args.string.buoys.now c.args.i c.args.x c.args.string.as_many c.requires.0 _ _ _ _ _ (omega arith)
+    c.copy_run.ensures c.copy_items.ensures c.put_vertex.ensures

@@ -6,50 +6,37 @@ use Rattle.arcstring_tally.proofs.inner.tally.store.Goals as goal
 pub put_mark-requires : goal.put_mark-requires
 put_mark-requires c = room_for-one _ _ c.args.points.now c.args.marks.now _ (keeps_clean _ _ c.in-Clean.is) c.requires
 
-pub shape_of-points-in-Clean : goal.shape_of-points-in-Clean
-shape_of-points-in-Clean c = c.put_mark.auto.points
-
-pub shape_of-marks-in-Clean : goal.shape_of-marks-in-Clean
-shape_of-marks-in-Clean c = c.put_mark.auto.marks
-
 pub returns-in-Clean : goal.returns-in-Clean
 returns-in-Clean c =
-    let whole = one_written _ _ _ _ _ _ _ _ (keeps_clean _ _ c.in-Clean.is)
-    (c.put_mark.ensures.points_after, c.put_mark.ensures.marks_after) in
-    record { value = whole.0; points_after = whole.1.0; marks_after = whole.1.1 }
+    let w = one_written _ _ _ _ _ _ _ _ (keeps_clean _ _ c.in-Clean.is) (c.put_mark.ensures.points_after, c.put_mark.ensures.marks_after) in
+    record { points_after = w.0; marks_after = w.1 }
 
 pub put_mark-requires-in-Kept : goal.put_mark-requires-in-Kept
 put_mark-requires-in-Kept c =
     room_for-one _ _ c.args.points.now c.args.marks.now _ (keeps_kept _ _ _ c.in-Grazing.is c.in-Kept.is) c.requires
 
-pub shape_of-points-in-Kept : goal.shape_of-points-in-Kept
-shape_of-points-in-Kept c = c.put_mark-in-Kept.auto.points
-
-pub shape_of-marks-in-Kept : goal.shape_of-marks-in-Kept
-shape_of-marks-in-Kept c = c.put_mark-in-Kept.auto.marks
-
 pub returns-in-Kept : goal.returns-in-Kept
 returns-in-Kept c =
-    let whole = one_written _ _ _ _ _ _ _ _ (keeps_kept _ _ _ c.in-Grazing.is c.in-Kept.is)
+    let w = one_written _ _ _ _ _ _ _ _ (keeps_kept _ _ _ c.in-Grazing.is c.in-Kept.is)
     (c.put_mark-in-Kept.ensures.points_after, c.put_mark-in-Kept.ensures.marks_after) in
-    record { value = whole.0; points_after = whole.1.0; marks_after = whole.1.1 }
+    record { points_after = w.0; marks_after = w.1 }
 
 pub returns-in-Dropped : goal.returns-in-Dropped
 returns-in-Dropped c =
-    let whole = none_written _ _ _ _ (dropped_keeps_none _ _ _ c.in-Grazing.is c.in-Dropped.is) in
-    record { value = whole.0; points_after = whole.1.0; marks_after = whole.1.1 }
+    let w = none_written _ _ _ _ (dropped_keeps_none _ _ _ c.in-Grazing.is c.in-Dropped.is) in
+    record { points_after = w.0; marks_after = w.1 }
 
 pub returns-in-None : goal.returns-in-None
 returns-in-None c =
-    let whole = none_written _ _ _ _ (no_point_keeps_none _ _ c.in-Grazing.is c.in-None.is) in
-    record { value = whole.0; points_after = whole.1.0; marks_after = whole.1.1 }
+    let w = none_written _ _ _ _ (no_point_keeps_none _ _ c.in-Grazing.is c.in-None.is) in
+    record { points_after = w.0; marks_after = w.1 }
 
 pub returns-in-End : goal.returns-in-End
 returns-in-End c =
-    let whole = none_written _ _ _ _ (end_keeps_none _ _ c.in-End.is) in
-    record { value = whole.0; points_after = whole.1.0; marks_after = whole.1.1 }
+    let w = none_written _ _ _ _ (end_keeps_none _ _ c.in-End.is) in
+    record { points_after = w.0; marks_after = w.1 }
 
 pub returns-in-Apart : goal.returns-in-Apart
 returns-in-Apart c =
-    let whole = none_written _ _ _ _ (apart_keeps_none _ c.in-Apart.is) in
-    record { value = whole.0; points_after = whole.1.0; marks_after = whole.1.1 }
+    let w = none_written _ _ _ _ (apart_keeps_none _ c.in-Apart.is) in
+    record { points_after = w.0; marks_after = w.1 }

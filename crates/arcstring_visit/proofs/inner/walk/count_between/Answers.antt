@@ -1,18 +1,6 @@
 -- The legs of one string against those of another, counted. Assumes nothing.
-use mathlib.Core.Path.{refl}
-use Rattle.ieee754.proofs.Tests.{never}
 use Rattle.arcstring_visit.specs.Visit.{visits_from}
-use Rattle.arcstring_visit.proofs.Walks.{no_room_asked}
 use Rattle.arcstring_visit.proofs.inner.walk.count_between.Goals as goal
-
-pub visit-requires : goal.visit-requires
-visit-requires c =
-    record {
-      a_len = c.requires.a_len;
-      b_len = c.requires.b_len;
-      a_value = never;
-      room_if = no_room_asked _ _ _ _ _ refl;
-    }
 
 pub returns : goal.returns
 unfolding visits_from

@@ -22,31 +22,31 @@ module _ (r : Reader) (byte : ℕ) (a b : List Float) (part : Part) (here : part
   by_part_alone q h = by_part q a b (h.0, h.1 a b)
 
 pub take_exactly-requires : goal.take_exactly-requires
-take_exactly-requires c = (c.requires.0, sym c.part_at-part.ensures ∙ c.in-Exactly.is)
+take_exactly-requires c = (c.requires.0, sym c.part_at.ensures ∙ c.in-Exactly.is)
 
 pub take_name-requires : goal.take_name-requires
-take_name-requires c = (c.requires.0, sym c.part_at-part.ensures ∙ c.in-Name.is)
+take_name-requires c = (c.requires.0, sym c.part_at.ensures ∙ c.in-Name.is)
 
 pub take_digit-requires : goal.take_digit-requires
-take_digit-requires c = (c.requires.0, sym c.part_at-part.ensures ∙ c.in-Digit.is)
+take_digit-requires c = (c.requires.0, sym c.part_at.ensures ∙ c.in-Digit.is)
 
 pub take_last_digit-requires : goal.take_last_digit-requires
-take_last_digit-requires c = (c.requires.0, sym c.part_at-part.ensures ∙ c.in-LastDigit.is, c.requires.1, c.requires.2)
+take_last_digit-requires c = (c.requires.0, sym c.part_at.ensures ∙ c.in-LastDigit.is, c.requires.1, c.requires.2)
 
 pub returns-in-Exactly : goal.returns-in-Exactly
 returns-in-Exactly c =
-    by_part_alone c.args.r c.args.byte c.args.a.now c.args.b.now _ (sym c.part_at-part.ensures ∙ c.in-Exactly.is) _ c.take_exactly.ensures
+    by_part_alone c.args.r c.args.byte c.args.a.now c.args.b.now _ (sym c.part_at.ensures ∙ c.in-Exactly.is) _ c.take_exactly.ensures
 
 pub returns-in-Name : goal.returns-in-Name
-returns-in-Name c = by_part_alone c.args.r c.args.byte c.args.a.now c.args.b.now _ (sym c.part_at-part.ensures ∙ c.in-Name.is) _ c.take_name.ensures
+returns-in-Name c = by_part_alone c.args.r c.args.byte c.args.a.now c.args.b.now _ (sym c.part_at.ensures ∙ c.in-Name.is) _ c.take_name.ensures
 
 pub returns-in-Digit : goal.returns-in-Digit
-returns-in-Digit c = by_part_alone c.args.r c.args.byte c.args.a.now c.args.b.now _ (sym c.part_at-part.ensures ∙ c.in-Digit.is) _ c.take_digit.ensures
+returns-in-Digit c = by_part_alone c.args.r c.args.byte c.args.a.now c.args.b.now _ (sym c.part_at.ensures ∙ c.in-Digit.is) _ c.take_digit.ensures
 
 pub returns-in-LastDigit : goal.returns-in-LastDigit
 returns-in-LastDigit c =
-    by_part c.args.r c.args.byte c.args.a.now c.args.b.now _ (sym c.part_at-part.ensures ∙ c.in-LastDigit.is) _ c.take_last_digit.new.a c.take_last_digit.new.b
+    by_part c.args.r c.args.byte c.args.a.now c.args.b.now _ (sym c.part_at.ensures ∙ c.in-LastDigit.is) _ c.take_last_digit.new.a c.take_last_digit.new.b
     c.take_last_digit.ensures
 
 pub returns-in-Nothing : goal.returns-in-Nothing
-returns-in-Nothing c = by_part_alone c.args.r c.args.byte c.args.a.now c.args.b.now _ (sym c.part_at-part.ensures ∙ c.in-Nothing.is) _ c.malformed.ensures
+returns-in-Nothing c = by_part_alone c.args.r c.args.byte c.args.a.now c.args.b.now _ (sym c.part_at.ensures ∙ c.in-Nothing.is) _ c.malformed.ensures

@@ -1,29 +1,15 @@
 -- `read::take_digit` puts a digit after those so far, which `Reading` has fit. Assumes nothing.
-use mathlib.Core.Path.{◌≡◌}
-use mathlib.Core.Option.{some}
-use Rattle.textform.specs.Text.{hex_digit}
+use mathlib.Core.Path.{sym}
 use Rattle.textform.proofs.inner.read.Places.{rule_at}
-use Rattle.textform.proofs.inner.read.Reading.{digit_value_lem, digit_none, digits_fit, digit_fits, digit_next}
+use Rattle.textform.proofs.inner.read.Reading.{digits_fit, digit_fits, digit_next}
 use Rattle.textform.proofs.inner.read.take_digit.Goals as goal
-
-pub returns-in_default : goal.returns-in_default
-returns-in_default c =
-    (c.malformed.ensures.0, λ a b. rw (digit_none c.args.byte c.hex_digit-digit.ensures c.in_default.is) (c.malformed.ensures.1 a b))
 
 pub overflow_mul-r : goal.overflow_mul-r
 overflow_mul-r c = record { fits = digits_fit c.args.r c.requires.0 }
 
 pub overflow_add-r : goal.overflow_add-r
-overflow_add-r c =
-    let value : hex_digit c.args.byte ≡ some c.in-Value.d = digit_value_lem c.args.byte c.hex_digit-digit.ensures c.in-Value.is in
-    record { fits = digit_fits c.args.r c.requires.0 c.args.byte _ _ value c.wide.ensures }
+overflow_add-r c = record { fits = digit_fits c.args.r c.requires.0 c.args.byte _ _ (sym c.in-Some.ensures) c.from.ensures }
 
 pub onward-requires : goal.onward-requires
 onward-requires c =
-    let value : hex_digit c.args.byte ≡ some c.in-Value.d = digit_value_lem c.args.byte c.hex_digit-digit.ensures c.in-Value.is in
-    (c.requires.0, (rule_at _ _ c.requires.1).0.in-row, digit_next c.args.r c.requires.0 c.args.byte _ _ value c.wide.ensures c.requires.1)
-
-pub returns : goal.returns
-returns c =
-    let value : hex_digit c.args.byte ≡ some c.in-Value.d = digit_value_lem c.args.byte c.hex_digit-digit.ensures c.in-Value.is in
-    (c.onward.ensures.0, λ a b. rw (value, ← c.wide.ensures) (c.onward.ensures.1 a b))
+    (c.requires.0, (rule_at _ _ c.requires.1).0.in-row, digit_next c.args.r c.requires.0 c.args.byte _ _ (sym c.in-Some.ensures) c.from.ensures c.requires.1)

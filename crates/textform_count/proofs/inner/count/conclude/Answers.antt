@@ -16,16 +16,19 @@ slice_bounds-count_built-end c = sym (length-take-le _ _ (omega arith))
 pub slice_bounds-count_built-end-2 : goal.slice_bounds-count_built-end-2
 slice_bounds-count_built-end-2 c = sym (length-take-le _ _ (omega arith))
 
-pub count_built-conclusion-requires : goal.count_built-conclusion-requires
-count_built-conclusion-requires c = (
+pub count_built-requires : goal.count_built-requires
+count_built-requires c = (
   omega (arith, length-take-le c.args.r.a c.args.a.now (omega arith)),
   omega (arith, length-take-le c.args.r.b c.args.b.now (omega arith)),
 )
 
-pub returns-in-Refused : goal.returns-in-Refused
-returns-in-Refused c =
-    (conclusion_printed (held_state c.args.r c.args.a.now c.args.b.now) _ _ _ c.if-r-ne-ROW_START.false c.count_built-conclusion.ensures c.in-Refused.is c.print_refusal-in-Refused.ensures.0, c.print_refusal-in-Refused.ensures.1)
+pub returns-in-Err : goal.returns-in-Err
+returns-in-Err c =
+    let text = rw c.from.ensures at c.print_refusal-in-Err.ensures.0 in
+    (conclusion_printed (held_state c.args.r c.args.a.now c.args.b.now) _ _ c.if-r-ne-ROW_START.false c.in-Err.ensures text, c.print_refusal-in-Err.ensures.1)
 
-pub returns-in-Counts : goal.returns-in-Counts
-returns-in-Counts c =
-    (conclusion_printed (held_state c.args.r c.args.a.now c.args.b.now) _ _ _ c.if-r-ne-ROW_START.false c.count_built-conclusion.ensures c.in-Counts.is c.print_counts.ensures.0, c.print_counts.ensures.1)
+pub returns-in-Ok : goal.returns-in-Ok
+returns-in-Ok c = (
+  conclusion_printed (held_state c.args.r c.args.a.now c.args.b.now) _ _ c.if-r-ne-ROW_START.false c.in-Ok.ensures c.print_counts.ensures.0,
+  c.print_counts.ensures.1,
+)

@@ -10,15 +10,15 @@ returns-then-d-ge10 c = (no_digit c.args.n c.args.d c.if-d-ge10.true, tt)
 
 pub returns-then-number-eq0 : goal.returns-then-number-eq0
 returns-then-number-eq0 c =
-    let number : 10 * c.args.n + c.wide.result ≡ 10 * c.args.n + c.args.d = ap (λ (x : ℕ). 10 * c.args.n + x) c.wide.ensures in
+    let number : 10 * c.args.n + c.from.result ≡ 10 * c.args.n + c.args.d = ap (λ (x : ℕ). 10 * c.args.n + x) c.from.ensures in
     (leading_zero c.args.n c.args.d _ number c.if-d-ge10.false c.if-number-eq0.true, tt)
 
 pub returns-then-number-gt-MOST_TRACKS : goal.returns-then-number-gt-MOST_TRACKS
 returns-then-number-gt-MOST_TRACKS c =
-    let number : 10 * c.args.n + c.wide.result ≡ 10 * c.args.n + c.args.d = ap (λ (x : ℕ). 10 * c.args.n + x) c.wide.ensures in
+    let number : 10 * c.args.n + c.from.result ≡ 10 * c.args.n + c.args.d = ap (λ (x : ℕ). 10 * c.args.n + x) c.from.ensures in
     (too_large c.args.n c.args.d _ number c.if-d-ge10.false c.if-number-eq0.false c.if-number-gt-MOST_TRACKS.true, tt)
 
 pub returns : goal.returns
 returns c =
-    let number : 10 * c.args.n + c.wide.result ≡ 10 * c.args.n + c.args.d = ap (λ (x : ℕ). 10 * c.args.n + x) c.wide.ensures in
+    let number : 10 * c.args.n + c.from.result ≡ 10 * c.args.n + c.args.d = ap (λ (x : ℕ). 10 * c.args.n + x) c.from.ensures in
     (one_digit_more_lem c.args.n c.args.d _ number c.if-d-ge10.false c.if-number-eq0.false c.if-number-gt-MOST_TRACKS.false, search rules)

@@ -11,8 +11,11 @@ pub on_in_row-requires : goal.on_in_row-requires
 on_in_row-requires c = c.requires.0
 
 pub returns-then-n-r : goal.returns-then-n-r
-returns-then-n-r c =
-    (c.on_in_row.ensures.0, c.on_in_row.ensures.1 _ _ _ ∙ same_track (held_season c.args.r c.args.limit.now c.args.track.now c.args.out.now) c.args.n c.if-n-r.true)
+returns-then-n-r c = (
+  c.on_in_row.ensures.0,
+  c.on_in_row.ensures.1 _ _ _
+      ∙ same_track (held_season c.args.r c.args.limit.now c.args.track.now c.args.out.now) c.args.n c.if-n-r.true,
+)
 
 pub next_track-requires : goal.next_track-requires
 next_track-requires c = (c.requires.0, omega (arith, c.if-n-r-2.true), c.requires.2, c.requires.3, c.requires.4)
@@ -31,5 +34,8 @@ pub malformed-requires : goal.malformed-requires
 malformed-requires c = c.requires.0
 
 pub returns : goal.returns
-returns c =
-    (c.malformed.ensures.0, c.malformed.ensures.1 _ _ _ ∙ no_such_track (held_season c.args.r c.args.limit.now c.args.track.now c.args.out.now) c.args.n c.if-n-r.false c.if-n-r-2.false)
+returns c = (
+  c.malformed.ensures.0,
+  c.malformed.ensures.1 _ _ _
+      ∙ no_such_track (held_season c.args.r c.args.limit.now c.args.track.now c.args.out.now) c.args.n c.if-n-r.false c.if-n-r-2.false,
+)

@@ -1,5 +1,8 @@
 -- `conclude` prints 8 where the input is malformed, and else what the limit and the tracks give. Assumes nothing.
-use mathlib.Core.Path.{refl}
+use mathlib.Core.Path.{◌≡◌, ap}
+use mathlib.Core.Bool.{false}
+use mathlib.Core.Logic.{inl, inr}
+use Rattle.textform_season.specs.Season.{is_empty}
 use Rattle.textform_season.specs.Kept.{held_season}
 use Rattle.textform_season.proofs.inner.report.Reports.{within_row, within_column, at_row_start}
 use native.Mathlib.Omega.{arith}
@@ -17,21 +20,17 @@ print_season-requires c = c.requires
 
 pub returns-in-Empty : goal.returns-in-Empty
 returns-in-Empty c =
+    let s = held_season c.args.r c.args.limit.now c.args.track.now c.args.out.now in
     record {
-      out_after = at_row_start (held_season c.args.r c.args.limit.now c.args.track.now c.args.out.now) _ c.if-r-ne-ROW_START.false _ c.in-Empty.is refl c.print_season.ensures.out_after;
+      out_after = at_row_start s _ c.if-r-ne-ROW_START.false (ap is_empty c.in-Empty.is) c.print_season.ensures.out_after;
       upper_bound = c.print_season.ensures.upper_bound;
     }
 
 pub returns-in-Limit : goal.returns-in-Limit
 returns-in-Limit c =
+    let within : is_empty c.args.r.column ≡ false = elim c.in-Limit.is [ inl e ↦ ap is_empty e | inr n ↦ ap is_empty n.1 ] in
+    let s = held_season c.args.r c.args.limit.now c.args.track.now c.args.out.now in
     record {
-      out_after = within_column (held_season c.args.r c.args.limit.now c.args.track.now c.args.out.now) _ c.if-r-ne-ROW_START.false _ c.in-Limit.is refl c.print_refusal-in-Limit.ensures.0;
-      upper_bound = omega arith;
-    }
-
-pub returns-in-Number : goal.returns-in-Number
-returns-in-Number c =
-    record {
-      out_after = within_column (held_season c.args.r c.args.limit.now c.args.track.now c.args.out.now) _ c.if-r-ne-ROW_START.false _ c.in-Number.is refl c.print_refusal-in-Number.ensures.0;
+      out_after = within_column s _ c.if-r-ne-ROW_START.false within c.print_refusal-in-Limit.ensures.0;
       upper_bound = omega arith;
     }

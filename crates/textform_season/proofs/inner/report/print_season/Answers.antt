@@ -10,8 +10,8 @@ use Rattle.textform_season.proofs.inner.report.print_season.Goals as goal
 pub slice_bounds-build_plain-end : goal.slice_bounds-build_plain-end
 slice_bounds-build_plain-end c = sym (length-take-le _ _ (omega arith))
 
-pub build_plain-built-requires : goal.build_plain-built-requires
-build_plain-built-requires c =
+pub build_plain-requires : goal.build_plain-requires
+build_plain-requires c =
     let limit-most = length-take-le c.args.r.row.a c.args.limit.now (omega arith) in
     (omega arith, search rules)
 
@@ -21,17 +21,18 @@ all_done-requires c = c.requires
 pub print_tracks-requires : goal.print_tracks-requires
 print_tracks-requires c = (more_tracks c.all_done.result _ _ c.requires.0.few c.all_done.ensures.tracks_sound, search rules)
 
-pub returns-in-Refused : goal.returns-in-Refused
-returns-in-Refused c =
-    let check = build_refused _ _ _ _ c.build_plain-built.ensures.result_value c.build_plain-built.ensures.out_after _ c.in-Refused.is in
+pub returns-in-Err : goal.returns-in-Err
+returns-in-Err c =
     record {
-      out_after = limit_refused _ _ _ c.in-Refused.e _ c.number.ensures check c.print_refusal.ensures.0;
+      out_after = limit_refused _ _ _ c.in-Err.e (build_refused _ _ c.in-Err.ensures.result_value) (rw c.from.ensures at c.print_refusal.ensures.0);
       upper_bound = omega arith;
     }
 
-pub returns-in-String : goal.returns-in-String
-returns-in-String c =
+pub returns-in-Ok : goal.returns-in-Ok
+returns-in-Ok c =
+    let built = c.in-Ok.field-0 in
+    let accepted = (build_stands _ _ _ c.in-Ok.ensures.out_after built.0 built.1 c.in-Ok.ensures.result_value).accepted in
     record {
-      out_after = limit_accepted _ _ _ _ c.all_done.ensures.out_after (build_stands _ _ _ _ c.build_plain-built.ensures.result_value c.build_plain-built.ensures.out_after _ _ c.in-String.is).accepted c.print_tracks.ensures.0;
+      out_after = limit_accepted _ _ _ _ c.all_done.ensures.out_after accepted c.print_tracks.ensures.0;
       upper_bound = c.print_tracks.ensures.1;
     }

@@ -1,2 +1,0 @@
--- What the counting program has read and what it prints, by cases.
-pub mod Input

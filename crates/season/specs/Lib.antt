@@ -1,2 +1,0 @@
--- What the season report has read and what it prints, by cases.
-pub mod Input
