@@ -31,7 +31,7 @@ fn visit_two(a: Accepted, b: Accepted, margin: f64, points: &mut [f64], marks: &
     ensures marks_after { marks.new ≡ splice marks.old 0 (map mark_byte
         (kept_marks (visited margin a.entry.v.now a.entry.closed b.entry.v.now b.entry.closed))) }
 {
-    walk::visit(a.legs(), b.legs(), false, margin, true, points, marks)
+    walk::list(a.legs(), b.legs(), false, margin, points, marks)
 }
 
 // What the pairs of two accepted strings keep, written. Where they keep nothing there is no walk.

@@ -35,7 +35,7 @@ fn visit_self(s: Accepted, margin: f64, points: &mut [f64], marks: &mut [u8]) ->
     ensures marks_after { marks.new ≡ splice marks.old 0 (map mark_byte (kept_marks (self_pairs margin s.entry.v.now s.entry.closed))) }
 {
     let legs = s.legs();
-    let t = walk::visit(legs, legs, true, margin, true, points, marks);
+    let t = walk::list(legs, legs, true, margin, points, marks);
     arcstring_build::inner::normalize_points(points, t.kept);
     t
 }

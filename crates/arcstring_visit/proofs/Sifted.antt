@@ -18,7 +18,7 @@ use Rattle.arcstring_pair.specs.Pair.{pair_of}
 use Rattle.arcstring_crossing.specs.Plane.{FlagsOf, flagged_from}
 use Rattle.arcstring_tally.specs.declared.inner.tally.Tally.{Tally}
 use Rattle.arcstring_tally.specs.Pairs.{Mark, total, one_clean, one_end, one_grazing, one_apart, kept_marks}
-use Rattle.arcstring_tally.specs.Tally.{tally_on, tally_sum, RoomIf, WrittenIf}
+use Rattle.arcstring_tally.specs.Tally.{tally_on, tally_sum}
 use Rattle.arcstring_visit.specs.Visit.{row_pairs, found_pairs}
 use Rattle.arcstring_visit.proofs.Rows.{row_next, row_none}
 use Rattle.arcstring_tally.proofs.Tallies.{total-append, kept_append, count_append, sum_bound, aparts_keep_none}
@@ -46,39 +46,30 @@ same_tally : (t : Tally) (ps qs : List Pair) → ((f : Pair → ℕ) → total f
 unfolding tally_on
 same_tally t ps qs h k = simp (h one_clean, h one_end, h one_grazing, h one_apart, k)
 
-module _ {ps qs : List Pair} {m : ℕ} (s : Sifted ps qs m) where
-  pub sifted_tally : (t u r : Tally) → u ≡ tally_on t (replicate m Apart) → r ≡ tally_on u qs → r ≡ tally_on t ps
-  sifted_tally t u r hu hr =
-      hr
-      ∙ ap (λ (x : Tally). tally_on x qs) hu
-      ∙ sym (count_append t (replicate m Apart) qs)
-      ∙ same_tally t (replicate m Apart ++ qs) ps (λ f. total-append f (replicate m Apart) qs ∙ sym (sifted_total f s))
-      (kept_append (replicate m Apart) qs ∙ ap (λ (l : List Mark). l ++ kept_marks qs) (aparts_keep_none m) ∙ sym (sifted_kept s))
-
-  pub sifted_room : (write : Bool) (at : ℕ) (points : List Float) (marks : List ℕ) → RoomIf write ps at points marks → RoomIf write qs at points marks
-  sifted_room write at points marks r = record { fits = λ o. rw (← sifted_kept s) (r.fits o) }
-
-  pub sifted_written : (write : Bool) (at : ℕ) (points : List Float) (marks : List ℕ) (points' : List Float) (marks' : List ℕ)
-      → WrittenIf write qs at points marks points' marks'
-      → WrittenIf write ps at points marks points' marks'
-  sifted_written write at points marks points' marks' w = record { on = λ o. rw (sifted_kept s) (w.on o); off = w.off }
-
 -- pairs that are apart keep no place
 same_place : (t u : Tally) (m : ℕ) → u ≡ tally_on t (replicate m Apart) → u.kept ≡ t.kept
 unfolding tally_on
 same_place t u m h = ap (λ (x : Tally). x.kept) h ∙ rw (aparts_keep_none m) (add-zero t.kept)
 
+module _ {ps qs : List Pair} {m : ℕ} (sift : Sifted ps qs m) where
+  pub sifted_tally : (t u r : Tally) → u ≡ tally_on t (replicate m Apart) → r ≡ tally_on u qs → r ≡ tally_on t ps
+  sifted_tally t u r hu hr =
+      hr
+      ∙ ap (λ (x : Tally). tally_on x qs) hu
+      ∙ sym (count_append t (replicate m Apart) qs)
+      ∙ same_tally t (replicate m Apart ++ qs) ps (λ f. total-append f (replicate m Apart) qs ∙ sym (sifted_total f sift))
+      (kept_append (replicate m Apart) qs ∙ ap (λ (l : List Mark). l ++ kept_marks qs) (aparts_keep_none m) ∙ sym (sifted_kept sift))
+
+  module _ {S : Type 0} (t u : Tally) (h : u ≡ tally_on t (replicate m Apart)) where
+    pub sifted_room : (room : S → List Mark → ℕ → Type 0) (s : S) → room s (kept_marks ps) t.kept → room s (kept_marks qs) u.kept
+    sifted_room room s r = rw (same_place t u m h, ← sifted_kept sift) r
+
+    pub sifted_written : (written : List Mark → ℕ → S → S → Type 0) (s s' : S) → written (kept_marks qs) u.kept s s' → written (kept_marks ps) t.kept s s'
+    sifted_written written s s' w = rw (← same_place t u m h, sifted_kept sift) w
+
 pub sum_with_rest : (t u : Tally) (c m n : ℕ) → u ≡ tally_on t (replicate c Apart) → c + m ≤ n → tally_sum t + 2 * n < 4294967296
     → tally_sum u + 2 * m < 4294967296
 sum_with_rest t u c m n h l s = omega (arith, ap tally_sum h, sum_bound t (replicate c Apart), length-replicate c Apart)
-
-module _ (write : Bool) (ps : List Pair) (t u : Tally) (m : ℕ) (h : u ≡ tally_on t (replicate m Apart)) (points : List Float) (marks : List ℕ) where
-  pub room_at : RoomIf write ps t.kept points marks → RoomIf write ps u.kept points marks
-  room_at r = rw (same_place t u m h) r
-
-  pub written_at : (points' : List Float) (marks' : List ℕ) → WrittenIf write ps u.kept points marks points' marks'
-      → WrittenIf write ps t.kept points marks points' marks'
-  written_at points' marks' w = rw (same_place t u m h) at w
 
 -- ---- a row
 

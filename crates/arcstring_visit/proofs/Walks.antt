@@ -1,7 +1,6 @@
--- A walk that writes, or only counts: what it has written so far, pair after pair, how its room goes on, and what it has counted. Assumes nothing.
+-- A walk: what it has kept so far, pair after pair, how its room goes on, and what it has counted. Assumes nothing.
 use mathlib.Core.Path.{◌≡◌, refl, ap, ◌∙◌}
-use mathlib.Core.Bool.{Bool, true, false}
-use mathlib.Core.List.{List, [], ◌∷◌, ◌++◌}
+use mathlib.Core.List.{List, [], ◌∷◌, ◌++◌, filter_map}
 use Prim.Native.Nat.{ℕ, zero, suc, ◌+◌, ◌-◌, ◌*◌, ◌<◌, ◌≤◌}
 use native.Mathlib.Omega.{arith}
 use lib.ListN.{length, replicate}
@@ -11,58 +10,55 @@ use Rattle.arcstring_pair.specs.declared.pair.Pair.TheVariants.{Apart}
 use Rattle.arcstring.specs.Leg.{Leg, leg_at}
 use Rattle.arcstring_crossing.specs.Plane.{AllApart}
 use Rattle.arcstring_tally.specs.declared.inner.tally.Tally.{Tally}
-use Rattle.arcstring_tally.specs.Pairs.{kept_marks}
-use Rattle.arcstring_tally.specs.Tally.{no_tally, tally_on, RoomIf, WrittenIf}
+use Rattle.arcstring_tally.specs.Keep.{KeepLaws}
+use Rattle.arcstring_tally.specs.Pairs.{Mark, kept_marks}
+use Rattle.arcstring_tally.specs.Tally.{no_tally, tally_on}
 use Rattle.arcstring_visit.specs.Visit.{row_pairs, most_pairs}
 use Rattle.arcstring_visit.proofs.Rows.{row_next, row_none}
-use Rattle.arcstring_tally.proofs.Marks.{WritesSame, nothing_written, none_written, none_keeps_none, room_left, written_on, all_written}
-use Rattle.arcstring_tally.proofs.Tallies.{counted_none, kept_bound, aparts_keep_none}
+use Rattle.arcstring_tally.proofs.Tallies.{counted_none, kept_append, kept_bound, aparts_keep_none}
 
--- what is written so far, with what is still to be written, is what all the pairs keep; a walk that only counts has written nothing
-pub record WalksSame (write : Bool) (ps : List Pair) (at : ℕ) (points : List Float) (marks : List ℕ) (qs : List Pair) (next : ℕ) (points' : List Float)
-    (marks' : List ℕ) : Type 0 where
-  pub on : write ≡ true → WritesSame ps at points marks qs next points' marks'
-  pub off : write ≡ false → (points' ≡ points) × (marks' ≡ marks)
-
-pub walk_start : (write : Bool) (ps : List Pair) (at : ℕ) (points : List Float) (marks : List ℕ) → WalksSame write ps at points marks ps at points marks
-walk_start write ps at points marks = record { on = λ h. nothing_written ps at points marks; off = λ h. (refl, refl) }
-
--- a walk from a tally's place that is zero
-pub walk_from_none : (write : Bool) (ps : List Pair) (t : Tally) (points : List Float) (marks : List ℕ) → t ≡ no_tally
-    → WalksSame write ps 0 points marks ps t.kept points marks
-walk_from_none write ps t points marks h = let e : t.kept ≡ 0 = ap (λ (s : Tally). s.kept) h in rw e (walk_start write ps 0 points marks)
+-- there is room for what is still to be kept, and with it what is kept so far is what all the pairs keep
+pub record KeepsOn {S : Type 0} (room : S → List Mark → ℕ → Type 0) (written : List Mark → ℕ → S → S → Type 0) (all : List Pair) (at : ℕ) (s : S)
+    (rest : List Pair) (next : ℕ) (t : S) : Type 0 where
+  pub room_on : room t (kept_marks rest) next
+  pub written_on : (u : S) → written (kept_marks rest) next t u → written (kept_marks all) at s u
 
 kept_on : (t r : Tally) (ps : List Pair) → r ≡ tally_on t ps → r.kept ≡ t.kept + length (kept_marks ps)
 unfolding tally_on
 kept_on t r ps h = ap (λ (s : Tally). s.kept) h
 
-module _ (write : Bool) (all : List Pair) (at : ℕ) (points : List Float) (marks : List ℕ) (room : RoomIf write all at points marks) (t : Tally)
-    (points' : List Float) (marks' : List ℕ) where
-  pub walk_room : (rest ps qs : List Pair) → rest ≡ ps ++ qs → WalksSame write all at points marks rest t.kept points' marks'
-      → RoomIf write ps t.kept points' marks'
-  walk_room rest ps qs h w = record { fits = λ o. room_left all at points marks (room.fits o) t.kept points' marks' rest ps qs h (w.on o) }
+marks_of : (rest ps qs : List Pair) → rest ≡ ps ++ qs → kept_marks rest ≡ kept_marks ps ++ kept_marks qs
+marks_of rest ps qs h = ap kept_marks h ∙ kept_append ps qs
 
-  pub walk_on : (rest ps qs : List Pair) (r : Tally) (points'' : List Float) (marks'' : List ℕ) → rest ≡ ps ++ qs
-      → WalksSame write all at points marks rest t.kept points' marks'
-      → r ≡ tally_on t ps → WrittenIf write ps t.kept points' marks' points'' marks'' → WalksSame write all at points marks qs r.kept points'' marks''
-  walk_on rest ps qs r points'' marks'' h w count s =
-      record {
-        on = λ o. written_on all at points marks (room.fits o) t.kept points' marks' rest ps qs r.kept points'' marks'' h (w.on o)
-            (kept_on t r ps count, s.on o);
-        off = λ o. ((s.off o).0 ∙ (w.off o).0, (s.off o).1 ∙ (w.off o).1);
-      }
+pub none_keep_none : (ps : List Pair) → ps ≡ [] → kept_marks ps ≡ []
+unfolding kept_marks filter_map
+none_keep_none ps h = ap kept_marks h
 
-  pub walk_done : (rest : List Pair) → rest ≡ [] → WalksSame write all at points marks rest t.kept points' marks'
-      → WrittenIf write all at points marks points' marks'
-  walk_done rest h w =
-      record {
-        on = λ o. (all_written all at points marks (room.fits o) t.kept points' marks' rest (none_keeps_none rest h) (w.on o)).1;
-        off = w.off;
-      }
+module _ {S : Type 0} {room : S → List Mark → ℕ → Type 0} {written : List Mark → ℕ → S → S → Type 0} (laws : KeepLaws room written) (all : List Pair)
+    (at : ℕ) (s : S) where
+  pub walk_start : room s (kept_marks all) at → KeepsOn room written all at s all at s
+  walk_start r = record { room_on = r; written_on = λ u w. w }
 
--- a walk that only counts asks for no room
-pub no_room_asked : (write : Bool) (ps : List Pair) (at : ℕ) (points : List Float) (marks : List ℕ) → write ≡ false → RoomIf write ps at points marks
-no_room_asked write ps at points marks h = record { fits = λ o. absurd (let z : ◌≡◌ {A = ℕ} 0 1 = cc in omega arith) }
+  pub walk_room : (rest ps qs : List Pair) (next : ℕ) (t : S) → rest ≡ ps ++ qs → KeepsOn room written all at s rest next t → room t (kept_marks ps) next
+  walk_room rest ps qs next t h k = laws.first t (kept_marks ps) (kept_marks qs) next (rw (← marks_of rest ps qs h) k.room_on)
+
+  pub walk_on : (rest ps qs : List Pair) (c r : Tally) (t u : S) → rest ≡ ps ++ qs → KeepsOn room written all at s rest c.kept t → r ≡ tally_on c ps
+      → written (kept_marks ps) c.kept t u → KeepsOn room written all at s qs r.kept u
+  walk_on rest ps qs c r t u h k count w =
+      let m = marks_of rest ps qs h in
+      let all_room : room t (kept_marks ps ++ kept_marks qs) c.kept = rw (← m) k.room_on in
+      rw (kept_on c r ps count)
+      (record {
+        room_on = laws.others t u (kept_marks ps) (kept_marks qs) c.kept all_room w;
+        written_on = λ v x. k.written_on v (rw m (laws.both t u v (kept_marks ps) (kept_marks qs) c.kept all_room w x));
+      })
+
+  pub walk_done : (rest : List Pair) (next : ℕ) (t : S) → rest ≡ [] → KeepsOn room written all at s rest next t → written (kept_marks all) at s t
+  walk_done rest next t h k = k.written_on t (rw (none_keep_none rest h) (laws.nothing next t))
+
+  -- pairs that are all apart
+  pub aparts_written : (m : ℕ) → all ≡ replicate m Apart → written (kept_marks all) at s s
+  aparts_written m h = rw (h, aparts_keep_none m) (laws.nothing at s)
 
 -- ---- a row whose pairs are all apart
 
@@ -77,11 +73,6 @@ module _ (margin : Float) (a : Leg) (v : List Float) (n : ℕ) (whole : length v
 
   pub row_apart : row_pairs margin a v from to ≡ replicate (to - from) Apart
   row_apart = rest_apart (to - from) from refl (omega arith)
-
-pub aparts_written : (write : Bool) (ps : List Pair) (m : ℕ) (at : ℕ) (points : List Float) (marks : List ℕ) → ps ≡ replicate m Apart
-    → WrittenIf write ps at points marks points marks
-aparts_written write ps m at points marks h =
-    record { on = λ o. none_written ps at points marks (ap kept_marks h ∙ aparts_keep_none m); off = λ o. (refl, refl) }
 
 -- ---- a tally from nothing, of all pairs of two strings
 

@@ -10,22 +10,26 @@
 // fails. The status is 0 all the same: the empty output and that line stand in for it.
 #![tactic(auto)]
 
-ghost use Rattle.std.specs.Prelude.{◌≡◌, ◌≤◌, length, take, IfOk};
+ghost use Rattle.std.specs.Prelude.{◌≤◌, take, IfOk};
 ghost use Rattle.std.specs.Io.KnownBytes.{IsAtEnd};
-ghost use Rattle.textform.specs.Kept.{floats_kept};
 ghost use Rattle.textform.specs.Print.{print_room};
 ghost use Rattle.textform_count.specs.Pieces.{ReadInPieces, PrintedOfPieces};
 
 use std::io;
 use std::io::{ErrorKind, Read};
-use textform::inner::read::Reader;
-use textform::inner::{pieces, print, read, say};
+use textform::inner::print::PRINT_ROOM;
+use textform::inner::read::FLOATS_KEPT;
+use textform::inner::reader::Reader;
+use textform::inner::{pieces, read, say};
 use textform_count::inner::count;
 
 // The input to its end, each piece fed, however little it is: the reader then. A proved loop has to end, and nothing says that the
 // input does: so the loop counts its turns, to a number that no run comes to. If one did, its input would not be whole.
-fn read_all<R: Read>(stdin: &mut R, a: &mut [f64], b: &mut [f64]) -> io::Result<Reader>
-    requires { (length a.old ≡ floats_kept) × (length b.old ≡ floats_kept) }
+fn read_all<R: Read>(
+    stdin: &mut R,
+    a: &mut [f64; FLOATS_KEPT],
+    b: &mut [f64; FLOATS_KEPT],
+) -> io::Result<Reader>
     ensures { IfOk result (λ r. IsAtEnd (R.remaining stdin.new) × ReadInPieces r a.new b.new) }
 {
     let mut bytes = [0; pieces::MOST_READ];
@@ -41,18 +45,17 @@ fn read_all<R: Read>(stdin: &mut R, a: &mut [f64], b: &mut [f64]) -> io::Result<
 }
 
 // The input read, and what is printed for it at the start of `out`: how many bytes.
-fn read_and_count<R: Read>(stdin: &mut R, out: &mut [u8]) -> io::Result<usize>
-    requires { length out.old ≡ print_room }
+fn read_and_count<R: Read>(stdin: &mut R, out: &mut [u8; PRINT_ROOM]) -> io::Result<usize>
     ensures { IfOk result (λ n. PrintedOfPieces (take n out.new) × (n ≤ print_room)) }
 {
-    let mut a = [0.0; read::FLOATS_KEPT];
-    let mut b = [0.0; read::FLOATS_KEPT];
+    let mut a = [0.0; FLOATS_KEPT];
+    let mut b = [0.0; FLOATS_KEPT];
     let reader = read_all(stdin, &mut a, &mut b)?;
     Ok(count::conclude(reader, &a, &b, out))
 }
 
 fn main(rt: HostRuntime) {
-    let mut out = [0u8; print::PRINT_ROOM];
+    let mut out = [0u8; PRINT_ROOM];
     match read_and_count(&mut rt.stdin(), &mut out) {
         Ok(n) => say::text(&rt.stdout(), &rt.stderr(), &out[..n]),
         Err(_) => say::failure(&rt.stderr(), b"read failed\n"),

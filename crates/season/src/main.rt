@@ -11,9 +11,8 @@
 // The status is 0 all the same.
 #![tactic(auto)]
 
-ghost use Rattle.std.specs.Prelude.{◌≡◌, ◌≤◌, length, take, IfOk};
+ghost use Rattle.std.specs.Prelude.{◌≤◌, take, IfOk};
 ghost use Rattle.std.specs.Io.KnownBytes.{IsAtEnd};
-ghost use Rattle.textform.specs.Kept.{floats_kept};
 ghost use Rattle.textform_season.specs.Kept.{report_room};
 ghost use Rattle.textform_season.specs.Pieces.{SeasonOfPieces, ReportOfPieces};
 
@@ -21,18 +20,18 @@ use std::io;
 use std::io::{ErrorKind, Read};
 use textform::inner::read::FLOATS_KEPT;
 use textform::inner::{pieces, say};
-use textform_season::inner::read::Reading;
+use textform_season::inner::reading::Reading;
+use textform_season::inner::report::REPORT_ROOM;
 use textform_season::inner::{read, report};
 
 // The input to its end, each piece fed, however little it is: the reading then. The loop counts its turns, to a number that no run comes to,
 // since a proved loop has to end.
 fn read_all<R: Read>(
     stdin: &mut R,
-    limit: &mut [f64],
-    track: &mut [f64],
-    out: &mut [u8],
+    limit: &mut [f64; FLOATS_KEPT],
+    track: &mut [f64; FLOATS_KEPT],
+    out: &mut [u8; REPORT_ROOM],
 ) -> io::Result<Reading>
-    requires { (length limit.old ≡ floats_kept) × (length track.old ≡ floats_kept) × (length out.old ≡ report_room) }
     ensures { IfOk result (λ r. IsAtEnd (R.remaining stdin.new) × SeasonOfPieces r limit.new track.new out.new) }
 {
     let mut bytes = [0; pieces::MOST_READ];
@@ -48,8 +47,7 @@ fn read_all<R: Read>(
 }
 
 // The input read, and what is printed for it at the start of `out`: how many bytes.
-fn read_and_report<R: Read>(stdin: &mut R, out: &mut [u8]) -> io::Result<usize>
-    requires { length out.old ≡ report_room }
+fn read_and_report<R: Read>(stdin: &mut R, out: &mut [u8; REPORT_ROOM]) -> io::Result<usize>
     ensures { IfOk result (λ n. ReportOfPieces (take n out.new) × (n ≤ report_room)) }
 {
     let mut limit = [0.0; FLOATS_KEPT];
@@ -59,7 +57,7 @@ fn read_and_report<R: Read>(stdin: &mut R, out: &mut [u8]) -> io::Result<usize>
 }
 
 fn main(rt: HostRuntime) {
-    let mut out = [0; report::REPORT_ROOM];
+    let mut out = [0; REPORT_ROOM];
     match read_and_report(&mut rt.stdin(), &mut out) {
         Ok(n) => say::text(&rt.stdout(), &rt.stderr(), &out[..n]),
         Err(_) => say::failure(&rt.stderr(), b"read failed\n"),

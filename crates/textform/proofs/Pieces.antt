@@ -43,9 +43,8 @@ module _ {P Q : List ℕ → Type 0} (before : OfPieces P) where
 
 -- ---- bytes fed in turn
 
--- What is held is what the bytes of the pieces lead to, from the start on; `new` is what another piece makes of it. Q and R are what else is known of each.
-pub fed_more : {S Q R : Type 0} (step : S → ℕ → S) (start held new : S) (piece : List ℕ)
-    → OfPieces (λ (bytes : List ℕ). Q × (held ≡ in_turn step start bytes)) → R → new ≡ in_turn step held piece → OneRead piece
-    → OfPieces (λ (bytes : List ℕ). R × (new ≡ in_turn step start bytes))
-fed_more {S} step start held new piece before known fed size =
-    one_more_lem before piece size (λ bytes h. (known, fed ∙ ap (λ (s : S). in_turn step s piece) h.1 ∙ fed-in_pieces S step start bytes piece))
+-- What is held is what the bytes of the pieces lead to, from the start on; `new` is what another piece makes of it.
+pub fed_more : {S : Type 0} (step : S → ℕ → S) (start held new : S) (piece : List ℕ) → OfPieces (λ (bytes : List ℕ). held ≡ in_turn step start bytes)
+    → new ≡ in_turn step held piece → OneRead piece → OfPieces (λ (bytes : List ℕ). new ≡ in_turn step start bytes)
+fed_more {S} step start held new piece before fed size =
+    one_more_lem before piece size (λ bytes h. fed ∙ ap (λ (s : S). in_turn step s piece) h ∙ fed-in_pieces S step start bytes piece)

@@ -2,4 +2,5 @@
 pub mod pieces;
 pub mod print;
 pub mod read;
+pub mod reader;
 pub mod say;

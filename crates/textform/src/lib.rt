@@ -4,6 +4,7 @@
 //
 //     inner          for the programs of this repository
 //     inner::pieces  a buffer for one read of the input
+//     inner::reader  where the reading stands
 //     inner::read    the machine over the bytes
 //     inner::print   texts, decimal numbers, the refusal line
 //     inner::say     text written, or a failure

@@ -6,19 +6,20 @@ use Prim.Native.Nat.{ℕ}
 use lib.Ieee.{Float}
 use Rattle.textform.specs.Text.{in_turn}
 use Rattle.textform.proofs.Pieces as pieces
-use Rattle.textform_season.specs.declared.inner.read.Reading.{Reading}
-use Rattle.textform_season.specs.Kept.{held_season, SeasonSound, kept_start, kept_answer, printed_report}
+use Rattle.textform_season.specs.declared.inner.reading.Reading.{Reading}
+use Rattle.textform_season.specs.Kept.{kept_start, kept_answer, printed_report}
+use Rattle.textform_season.specs.Held.{held_season}
 use Rattle.textform_season.specs.Pieces.{SeasonOfPieces, ReportOfPieces}
 use Rattle.textform_season.proofs.inner.report.Reports.{whole_output}
 
 -- before the first piece
-pub no_pieces : (r : Reading) (limit track : List Float) (out : List ℕ) → SeasonSound r → held_season r limit track out ≡ kept_start
+pub no_pieces : (r : Reading) (limit track : List Float) (out : List ℕ) → held_season r limit track out ≡ kept_start
     → SeasonOfPieces r limit track out
 unfolding in_turn
-no_pieces r limit track out sound h = pieces.no_pieces (sound, h)
+no_pieces r limit track out h = pieces.no_pieces h
 
 -- at the end
 pub read_and_printed : (r : Reading) (limit track : List Float) (out text : List ℕ) → SeasonOfPieces r limit track out
     → text ≡ printed_report (kept_answer (held_season r limit track out)) → ReportOfPieces text
 read_and_printed r limit track out text all h =
-    pieces.same_pieces all (λ bytes held. whole_output bytes text kept_start (held_season r limit track out) refl held.1 h)
+    pieces.same_pieces all (λ bytes held. whole_output bytes text kept_start (held_season r limit track out) refl held h)

@@ -2,10 +2,11 @@
 -- contracts of inner functions. Definitions only.
 use Rattle.std.specs.Prelude as Std
 use Rattle.std.specs.Prelude.{◌≡◌, List, [], ℕ, ◌+◌, ◌-◌, ◌*◌, ◌≤◌, take, Float, Result, Ok, Err, Some, None}
+use Rattle.std.specs.Coded.{×_prop, Unit-prop, le_prop}
 use Rattle.arcstring_check.specs.Answer.{Answer, refused, answered, unless_refused, map_answer, and_then, pick, refusal_number}
 use Rattle.arcstring_check.specs.Check.{build_check}
 use Rattle.same_crossings.specs.CountLaws.{sum_of_counts}
-use Rattle.textform.specs.Kept.{keep, held_state, Sound}
+use Rattle.textform.specs.Kept.{keep}
 use Rattle.textform.specs.Print.{refusal_text}
 use Rattle.textform_count.specs.Count.{count_built}
 use Rattle.arcstring_visit.specs.Visit.{most_pairs}
@@ -14,7 +15,6 @@ use Rattle.textform_report.specs.Report.{line_room, heading_length, Report, repo
 use Rattle.textform_season.specs.declared.inner.column.Column.{Column}
 use Rattle.textform_season.specs.declared.inner.column.Column.TheVariants as C
 use Rattle.textform_season.specs.declared.inner.track.Lines.{Lines}
-use Rattle.textform_season.specs.declared.inner.read.Reading.{Reading}
 use Rattle.textform_season.specs.Season.{Season, begun, well_formed, all_done, fed_with}
 use Rattle.arcstring_check.specs.declared.check.Refusal.{Refusal}
 
@@ -52,26 +52,19 @@ ColumnSound C.Empty = Unit
 ColumnSound C.Limit = Unit
 ColumnSound (C.Number n) = (1 ≤ n) × (n ≤ most_tracks)
 
+-- two proofs of either are the same, as the ghost fields of a reading ask
+pub ColumnSound_prop : (c : Column) → IsProp (ColumnSound c)
+ColumnSound_prop C.Empty = Unit-prop
+ColumnSound_prop C.Limit = Unit-prop
+ColumnSound_prop (C.Number n) = ×_prop le_prop le_prop
+
+pub TracksSound_prop : (t : Result Lines Refusal) (k : ℕ) → IsProp (TracksSound t k)
+TracksSound_prop (Err e) k = Unit-prop
+TracksSound_prop (Ok l) k = λ p q i. record { room = le_prop p.room q.room i; pairs = le_prop p.pairs q.pairs i }
+
 abbrev pub NextSound : Std.Option Column → Type 0
 NextSound (Some c) = ColumnSound c
 NextSound None = Unit
-
--- what the reading and the three lists hold
-abbrev pub held_season : Reading → List Float → List Float → List ℕ → Season (Answer Report)
-held_season r limit track out =
-    record { text = held_state r.row limit track; column = r.column; last = r.last; done = held_tracks r.tracks out }
-
--- within its bounds
-pub record SeasonSound (r : Reading) : Type 0 where
-  pub row : Sound r.row
-  pub column : ColumnSound r.column
-  pub few : r.last ≤ most_tracks
-  pub tracks : TracksSound r.tracks (r.last - 1)
-
--- sound again, and whatever the three lists hold, what a change makes of what was held
-abbrev pub Becomes : Reading → (Season (Answer Report) → Season (Answer Report)) → Reading → Type 0
-Becomes r change q =
-    SeasonSound q × ((limit track : List Float) (out : List ℕ) → held_season q limit track out ≡ change (held_season r limit track out))
 
 abbrev pub kept_start : Season (Answer Report)
 kept_start = begun (answered (report_for []))

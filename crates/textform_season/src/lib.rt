@@ -4,6 +4,7 @@
 //     inner           for the programs of this repository
 //     inner::column   the first column of a row
 //     inner::track    a track that has ended: counted, and its line
+//     inner::reading  where the reading stands
 //     inner::read     the machine over the bytes
 //     inner::report   what is printed when the input has ended
 #![tactic(auto)]

@@ -1,11 +1,13 @@
 // What the walks over legs count up and write.
-ghost use Rattle.std.specs.Prelude.{◌≡◌, ◌∷◌, [], map, ◌+◌, ◌-◌, ◌*◌, ◌≤◌, ◌<◌, length, replicate};
+ghost use Rattle.std.specs.Prelude.{◌≡◌, ◌∷◌, [], List, map, ℕ, ◌+◌, ◌-◌, ◌*◌, ◌≤◌, ◌<◌, length, replicate, ⊤, refl};
+ghost use mathlib.Core.Path.{◌∙◌};
 ghost use Rattle.arcstring.specs.Points.{flat};
 ghost use Rattle.arcstring_check.specs.Check.{most_points};
 ghost use Rattle.arcstring.specs.Splice.{splice};
 ghost use Rattle.arcstring_pair.specs.declared.pair.Pair.TheVariants.{Grazing, Apart};
-ghost use Rattle.arcstring_tally.specs.Pairs.{kept_marks, mark_point, mark_byte};
-ghost use Rattle.arcstring_tally.specs.Tally.{tally_on, tally_counts, tally_sum, RoomIf, WrittenIf};
+ghost use Rattle.arcstring_tally.specs.Pairs.{Mark, kept_marks, mark_point, mark_byte};
+ghost use Rattle.arcstring_tally.specs.Tally.{tally_on, tally_counts, tally_sum};
+ghost use Rattle.arcstring_tally.specs.Keep.{Room, Stored, KeepLaws, stored_none, room_first, room_after, stored_both};
 
 use crate::counts::Counts;
 use arcstring::inner::vertex;
@@ -117,12 +119,67 @@ fn store(points: &mut [f64], marks: &mut [u8], at: usize, p: Pair)
     }
 }
 
-// What one pair keeps written at place `at`, if the walk writes.
-pub fn store_if(write: bool, points: &mut [f64], marks: &mut [u8], at: usize, p: Pair)
-    requires { RoomIf write (p ∷ []) at points.old marks.old }
-    ensures { WrittenIf write (p ∷ []) at points.old marks.old points.new marks.new }
-{
-    if write {
-        store(points, marks, at, p);
+// What a walk does with what its pairs keep: nothing, or it writes it.
+pub trait Keep {
+    // Room for these kept points from a place on.
+    ghost room: { Self → List Mark → ℕ → Type 0 };
+
+    // What these kept points, from a place on, make of what was there before.
+    ghost written: { List Mark → ℕ → Self → Self → Type 0 };
+
+    // No kept point, and some and then others: by these the walk goes on from pair to pair.
+    ghost laws: { KeepLaws room written };
+
+    // What one pair keeps, at place `at`.
+    fn keep(&mut self, at: usize, p: Pair)
+        requires { room self.old (kept_marks (p ∷ [])) at }
+        ensures { written (kept_marks (p ∷ [])) at self.old self.new };
+}
+
+// A walk that only counts.
+#[derive(Drop)]
+pub struct Nothing;
+
+impl Keep for Nothing {
+    ghost room = { λ s ms at. ⊤ };
+
+    ghost written = { λ ms at s t. ⊤ };
+
+    ghost laws = { record {
+      nothing = λ at s. tt;
+      first = λ s ms ns at r. tt;
+      others = λ s t ms ns at r w. tt;
+      both = λ s t u ms ns at r w x. tt;
+    } };
+
+    fn keep(&mut self, _at: usize, _p: Pair) {}
+}
+
+// A walk that writes the kept points and their marks.
+#[derive(Drop)]
+pub struct Lists<'a> {
+    pub points: &'a mut [f64],
+    pub marks: &'a mut [u8],
+}
+
+impl<'a> Keep for Lists<'a> {
+    ghost room = { λ s ms at. Room ms at s.points.now s.marks.now };
+
+    ghost written = { λ ms at s t. Stored ms at s.points.now s.marks.now t.points.now t.marks.now
+        × (t.points.ghost_name ≡ s.points.ghost_name) × (t.marks.ghost_name ≡ s.marks.ghost_name) };
+
+    ghost laws = { record {
+      nothing = λ at s. (stored_none at s.points.now s.marks.now, refl, refl);
+      first = λ s ms ns at r. room_first ms ns at s.points.now s.marks.now r;
+      others = λ s t ms ns at r w. room_after ms ns at s.points.now s.marks.now t.points.now t.marks.now r w.0;
+      both = λ s t u ms ns at r w x. (
+        stored_both ms ns at s.points.now s.marks.now t.points.now t.marks.now u.points.now u.marks.now r w.0 x.0,
+        x.1 ∙ w.1,
+        x.2 ∙ w.2,
+      );
+    } };
+
+    fn keep(&mut self, at: usize, p: Pair) {
+        store(self.points, self.marks, at, p);
     }
 }

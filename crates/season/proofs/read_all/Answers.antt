@@ -1,7 +1,6 @@
 -- `read_all` holds what the reads gave, piece after piece, by textform_season's `Pieces`: after a read that gave some bytes there is one piece more. Assumes
 -- nothing.
 use native.Mathlib.Omega.{arith}
-use mathlib.Core.Path.{◌∙◌}
 use Rattle.textform.specs.Kept.{keep}
 use Rattle.textform.proofs.Pieces.{one_read, fed_more}
 use Rattle.textform_season.specs.Season.{step_with}
@@ -11,19 +10,11 @@ use Rattle.season.proofs.read_all.Goals as goal
 
 pub loop-turn-init : goal.loop-turn-init
 loop-turn-init g c =
-    no_pieces c.begin-reading.result c.args.limit.now c.args.track.now _ c.begin-reading.ensures.0 (c.begin-reading.ensures.1 _ _)
-
-pub feed-reading-requires : goal.feed-reading-requires
-feed-reading-requires g c = (
-  c.loop-turn.invariant.holds.0,
-  c.loop-turn.auto.limit ∙ c.requires.0,
-  c.loop-turn.auto.track ∙ c.requires.1,
-  c.loop-turn.auto.out ∙ c.begin-reading.auto.out ∙ c.requires.2,
-)
+    no_pieces c.begin-reading.result c.args.limit.now c.args.track.now _ (c.begin-reading.ensures _ _)
 
 pub loop-turn-preserved : goal.loop-turn-preserved
 loop-turn-preserved g c =
-    fed_more (step_with end_track keep) kept_start _ _ _ c.loop-turn.invariant c.feed-reading.ensures.0 c.feed-reading.ensures.1
+    fed_more (step_with end_track keep) kept_start _ _ _ c.loop-turn.invariant c.feed-reading.ensures
     (one_read c.in_ok-n.n c.read.new.buf c.if-n-eq0.false c.in_ok-n.ensures.bound.0 c.if-n-eq0.array_long)
 
 pub returns-then-n-eq0 : goal.returns-then-n-eq0

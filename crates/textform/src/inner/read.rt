@@ -1,14 +1,17 @@
 // The text form read byte by byte. The floats of each string go to a list that the caller lends. A string of 1,025 points is
 // refused by 3 whatever else stands in it, so that no more than 1,025 are kept; the rows after them are still read.
-ghost use Rattle.std.specs.Prelude.{◌≡◌, [], ◌^◌, ◌≤◌, ◌<◌, length, take};
+ghost use Rattle.std.specs.Prelude.{◌≡◌, [], ◌^◌, ◌≤◌, ◌<◌, take};
 ghost use Rattle.std.specs.Float.{binary64};
 ghost use Rattle.std.specs.Float.Ieee.{of_bits};
 ghost use Rattle.textform.specs.Text.{row_last, malformed_place, float_part, row_part, part_at, place_after, hex_digit, start, with_float, State, step_at};
 ghost use Rattle.textform.specs.Text.{step_with, fed_with};
 ghost use Rattle.textform.specs.Text as Text;
-ghost use Rattle.textform.specs.Kept.{floats_kept, in_place, held_state, digits_before, Sound, Becomes};
+ghost use Rattle.textform.specs.Kept.{floats_kept, in_place, digits_before};
+ghost use Rattle.textform.specs.Held.{held_state, Becomes};
 ghost use Rattle.textform.specs.Kept as Kept;
 ghost use Rattle.arcstring_check.specs.Answer.{option_of};
+
+use super::reader::Reader;
 
 // The place of a row's first byte, and so how long the names line is.
 pub const ROW_START: usize = 13;
@@ -53,20 +56,9 @@ pub enum Part {
     Nothing,
 }
 
-// Where the reading stands: the place of the next byte, whether its row is B's, the digits of its float so far, and how many
-// floats of A and of B are kept.
-#[derive(Clone, Copy)]
-pub struct Reader {
-    pub place: usize,
-    pub second: bool,
-    pub word: u64,
-    pub a: usize,
-    pub b: usize,
-}
-
 // Before the first byte.
 pub fn begin() -> Reader
-    ensures { Sound result × (held_state result [] [] ≡ start) × (result.a ≡ 0) × (result.b ≡ 0) }
+    ensures { (held_state result [] [] ≡ start) × (result.a ≡ 0) × (result.b ≡ 0) }
 {
     Reader {
         place: 0,
@@ -152,8 +144,8 @@ pub fn coordinate(word: u64) -> f64
 }
 
 // One float more at the end of the first n of a list, unless it has 1,025 points. How many there are then.
-fn keep(list: &mut [f64], n: usize, word: u64) -> usize
-    requires { (length list.old ≡ floats_kept) × (n ≤ floats_kept) }
+fn keep(list: &mut [f64; FLOATS_KEPT], n: usize, word: u64) -> usize
+    requires { n ≤ floats_kept }
     ensures { (take result list.new ≡ Kept.keep (of_bits binary64 word) (take n list.old)) × (result ≤ floats_kept) }
 {
     if n == FLOATS_KEPT {
@@ -164,77 +156,72 @@ fn keep(list: &mut [f64], n: usize, word: u64) -> usize
 }
 
 // A whole float, kept for the string of its row.
-fn with_float(r: Reader, word: u64, a: &mut [f64], b: &mut [f64]) -> Reader
-    requires { Sound r × (r.place ≤ row_last) × (length a.old ≡ floats_kept) × (length b.old ≡ floats_kept) }
-    ensures { Sound result × (held_state result a.new b.new
-        ≡ with_float Kept.keep (of_bits binary64 word) (held_state r a.old b.old)) }
+fn with_float(
+    r: Reader,
+    word: u64,
+    a: &mut [f64; FLOATS_KEPT],
+    b: &mut [f64; FLOATS_KEPT],
+) -> Reader
+    requires { r.place ≤ row_last }
+    ensures { held_state result a.new b.new
+        ≡ with_float Kept.keep (of_bits binary64 word) (held_state r a.old b.old) }
 {
-    let r = Reader {
-        place: place_after(r.place),
-        word: 0,
-        ..r
-    };
+    let mut next = r;
+    next.place = place_after(r.place);
+    next.word = 0;
     if r.second {
-        return Reader {
-            b: keep(b, r.b, word),
-            ..r
-        };
+        next.b = keep(b, r.b, word);
+        return next;
     }
-    Reader {
-        a: keep(a, r.a, word),
-        ..r
-    }
+    next.a = keep(a, r.a, word);
+    next
 }
 
 // To where malformed input ends up, and stays.
 pub fn malformed(r: Reader) -> Reader
-    requires { Sound r }
     ensures { Becomes r Text.malformed result }
 {
-    Reader {
-        place: MALFORMED,
-        word: 0,
-        ..r
-    }
+    let mut next = r;
+    next.place = MALFORMED;
+    next.word = 0;
+    next
 }
 
 // On to the next place: in a row of this string, with these digits.
 fn onward(r: Reader, second: bool, word: u64) -> Reader
-    requires { Sound r × (r.place ≤ row_last) × (word < 16 ^ digits_before (place_after r.place)) }
+    requires { (r.place ≤ row_last) × (word < 16 ^ digits_before (place_after r.place)) }
     ensures { Becomes r (Text.onward second word) result }
 {
-    Reader {
-        place: place_after(r.place),
-        second,
-        word,
-        ..r
-    }
+    let mut next = r;
+    next.place = place_after(r.place);
+    next.second = second;
+    next.word = word;
+    next
 }
 
 // Past the name of its string and the blank after it, at the start of a row.
 pub fn in_row(r: Reader, second: bool) -> Reader
-    requires { Sound r }
     ensures { Becomes r (Text.in_row second) result }
 {
-    Reader {
-        place: PAST_NAME,
-        second,
-        word: 0,
-        ..r
-    }
+    let mut next = r;
+    next.place = PAST_NAME;
+    next.second = second;
+    next.word = 0;
+    next
 }
 
 // Without the floats of B.
 pub fn without_second(r: Reader) -> Reader
-    requires { Sound r }
     ensures { Becomes r Text.without_second result }
 {
-    Reader { b: 0, ..r }
+    let mut next = r;
+    next.b = 0;
+    next
 }
 
 // A byte where this one has to stand.
 fn take_exactly(r: Reader, byte: u8, c: u8) -> Reader
-    requires { Sound r × (part_at r.place ≡ Part.Exactly c) }
+    requires { part_at r.place ≡ Part.Exactly c }
     ensures { Becomes r (λ (s : State). step_at Kept.keep (Part.Exactly c) s byte) result }
 {
     if byte == c {
@@ -245,7 +232,7 @@ fn take_exactly(r: Reader, byte: u8, c: u8) -> Reader
 
 // A byte where a string's name has to stand.
 fn take_name(r: Reader, byte: u8) -> Reader
-    requires { Sound r × (part_at r.place ≡ Part.Name) }
+    requires { part_at r.place ≡ Part.Name }
     ensures { Becomes r (λ (s : State). step_at Kept.keep Part.Name s byte) result }
 {
     if byte == b'A' {
@@ -259,7 +246,7 @@ fn take_name(r: Reader, byte: u8) -> Reader
 
 // A byte where a digit has to stand, with more to come.
 fn take_digit(r: Reader, byte: u8) -> Reader
-    requires { Sound r × (part_at r.place ≡ Part.Digit) }
+    requires { part_at r.place ≡ Part.Digit }
     ensures { Becomes r (λ (s : State). step_at Kept.keep Part.Digit s byte) result }
 {
     match hex_digit(byte) {
@@ -269,10 +256,15 @@ fn take_digit(r: Reader, byte: u8) -> Reader
 }
 
 // A byte where the last digit of a float has to stand.
-fn take_last_digit(r: Reader, byte: u8, a: &mut [f64], b: &mut [f64]) -> Reader
-    requires { Sound r × (part_at r.place ≡ Part.LastDigit) × (length a.old ≡ floats_kept) × (length b.old ≡ floats_kept) }
-    ensures { Sound result × (held_state result a.new b.new
-        ≡ step_at Kept.keep Part.LastDigit (held_state r a.old b.old) byte) }
+fn take_last_digit(
+    r: Reader,
+    byte: u8,
+    a: &mut [f64; FLOATS_KEPT],
+    b: &mut [f64; FLOATS_KEPT],
+) -> Reader
+    requires { part_at r.place ≡ Part.LastDigit }
+    ensures { held_state result a.new b.new
+        ≡ step_at Kept.keep Part.LastDigit (held_state r a.old b.old) byte }
 {
     match hex_digit(byte) {
         Some(d) => with_float(r, 16 * r.word + u64::from(d), a, b),
@@ -281,10 +273,9 @@ fn take_last_digit(r: Reader, byte: u8, a: &mut [f64], b: &mut [f64]) -> Reader
 }
 
 // One byte, by the part that stands at its place.
-pub fn step(r: Reader, byte: u8, a: &mut [f64], b: &mut [f64]) -> Reader
-    requires { Sound r × (length a.old ≡ floats_kept) × (length b.old ≡ floats_kept) }
-    ensures { Sound result × (held_state result a.new b.new
-        ≡ step_with Kept.keep (held_state r a.old b.old) byte) }
+pub fn step(r: Reader, byte: u8, a: &mut [f64; FLOATS_KEPT], b: &mut [f64; FLOATS_KEPT]) -> Reader
+    ensures { held_state result a.new b.new
+        ≡ step_with Kept.keep (held_state r a.old b.old) byte }
 {
     match part_at(r.place) {
         Part::Exactly(c) => take_exactly(r, byte, c),
@@ -296,10 +287,14 @@ pub fn step(r: Reader, byte: u8, a: &mut [f64], b: &mut [f64]) -> Reader
 }
 
 // A piece of the input, byte by byte.
-pub fn feed(r: Reader, bytes: &[u8], a: &mut [f64], b: &mut [f64]) -> Reader
-    requires { Sound r × (length a.old ≡ floats_kept) × (length b.old ≡ floats_kept) }
-    ensures { Sound result × (held_state result a.new b.new
-        ≡ fed_with Kept.keep (held_state r a.old b.old) bytes.now) }
+pub fn feed(
+    r: Reader,
+    bytes: &[u8],
+    a: &mut [f64; FLOATS_KEPT],
+    b: &mut [f64; FLOATS_KEPT],
+) -> Reader
+    ensures { held_state result a.new b.new
+        ≡ fed_with Kept.keep (held_state r a.old b.old) bytes.now }
 {
     let mut reader = r;
     for byte in bytes {

@@ -2,8 +2,8 @@
 ghost use Rattle.std.specs.Prelude.{◌≡◌, ◌≤◌, length, take};
 ghost use Rattle.arcstring_check.specs.Answer.{leaves, answer_of};
 ghost use Rattle.arcstring_build.specs.Build.{built_result};
-ghost use Rattle.arcstring_check.specs.Check.{most_floats};
-ghost use Rattle.textform.specs.Kept.{floats_kept, held_state, Sound};
+ghost use Rattle.textform.specs.Kept.{floats_kept};
+ghost use Rattle.textform.specs.Held.{held_state};
 ghost use Rattle.textform.specs.Print.{print_room};
 ghost use Rattle.textform_count.specs.Plain.{plain_build, plain_floats};
 ghost use Rattle.textform_count.specs.Print.{printed};
@@ -14,13 +14,14 @@ use arcstring_build::build;
 use arcstring_check::check::{MOST_FLOATS, MOST_POINTS, Refusal};
 use arcstring_listing::listing;
 use arcstring_tally::counts::Counts;
-use textform::inner::print::print_refusal;
+use textform::inner::print::{PRINT_ROOM, print_refusal};
 use textform::inner::read;
-use textform::inner::read::Reader;
+use textform::inner::read::FLOATS_KEPT;
+use textform::inner::reader::Reader;
 
 // The string that points make, without buoys: every number is 0, and those of the vertices are not looked at.
-pub fn build_plain(v: &[f64], out: &mut [f64]) -> Result<(usize, bool), Refusal>
-    requires { (length v.now ≤ floats_kept) × (length out.old ≡ most_floats) }
+pub fn build_plain(v: &[f64], out: &mut [f64; MOST_FLOATS]) -> Result<(usize, bool), Refusal>
+    requires { length v.now ≤ floats_kept }
     ensures result_value { answer_of result ≡ built_result (plain_build v.now) }
     ensures out_after { out.new ≡ leaves (plain_floats (plain_build v.now)) out.old }
 {
@@ -43,8 +44,12 @@ pub fn count_built(a: &[f64], b: &[f64]) -> Result<Counts, Refusal>
 }
 
 // What is printed once the input has ended: how many bytes of `out`.
-pub fn conclude(r: Reader, a: &[f64], b: &[f64], out: &mut [u8]) -> usize
-    requires { Sound r × (length a.now ≡ floats_kept) × (length b.now ≡ floats_kept) × (length out.old ≡ print_room) }
+pub fn conclude(
+    r: Reader,
+    a: &[f64; FLOATS_KEPT],
+    b: &[f64; FLOATS_KEPT],
+    out: &mut [u8; PRINT_ROOM],
+) -> usize
     ensures { (take result out.new ≡ printed (count_state (held_state r a.now b.now))) × (result ≤ print_room) }
 {
     if r.place != read::ROW_START {
@@ -57,12 +62,11 @@ pub fn conclude(r: Reader, a: &[f64], b: &[f64], out: &mut [u8]) -> usize
 }
 
 // The bytes printed for a whole input: how many bytes of `out`.
-pub fn count_text(input: &[u8], out: &mut [u8]) -> usize
-    requires { length out.old ≡ print_room }
+pub fn count_text(input: &[u8], out: &mut [u8; PRINT_ROOM]) -> usize
     ensures { (take result out.new ≡ output input.now) × (result ≤ print_room) }
 {
-    let mut a = [0.0; read::FLOATS_KEPT];
-    let mut b = [0.0; read::FLOATS_KEPT];
+    let mut a = [0.0; FLOATS_KEPT];
+    let mut b = [0.0; FLOATS_KEPT];
     let r = read::feed(read::begin(), input, &mut a, &mut b);
     conclude(r, &a, &b, out)
 }

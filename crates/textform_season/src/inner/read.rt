@@ -1,32 +1,23 @@
 // The text form of a season read byte by byte: each row goes on as a row of two strings does, once its first column is read. The limit's
 // floats and those of the last track go to two lists that the caller lends, and the lines of the tracks that have ended to a third.
 ghost use Rattle.std.specs.Prelude.{◌≡◌, List, ℕ, ◌≤◌, ◌<◌, length, Float};
-ghost use Rattle.textform.specs.Kept.{floats_kept};
 ghost use Rattle.textform.specs.Kept as Text;
 ghost use Rattle.textform_report.specs.Permille.{most_tracks};
 ghost use Rattle.textform_season.specs.Season as Season;
-ghost use Rattle.textform_season.specs.Kept.{report_room, end_track, held_tracks, TracksSound, held_season, SeasonSound, Becomes, kept_start, kept_fed};
+ghost use Rattle.textform_season.specs.Kept.{end_track, held_tracks, TracksSound, kept_start, kept_fed};
+ghost use Rattle.textform_season.specs.Held.{held_season, Becomes};
 
 use crate::inner::column::{Column, column_after};
+use crate::inner::reading::Reading;
+use crate::inner::report::REPORT_ROOM;
 use crate::inner::track::{Lines, end_track, no_tracks};
 use arcstring_check::check::Refusal;
 use textform::inner::read;
-use textform::inner::read::Reader;
-
-// Where the reading stands: in its row, as of two strings; what has been read of the first column; the number of the last track, 0 before
-// the first; and what is kept of the tracks before it.
-#[derive(Clone, Copy)]
-pub struct Reading {
-    pub row: Reader,
-    pub column: Column,
-    pub last: u64,
-    pub tracks: Result<Lines, Refusal>,
-}
+use textform::inner::read::FLOATS_KEPT;
 
 // Before the first byte.
-pub fn begin(out: &mut [u8]) -> Reading
-    requires { length out.old ≡ report_room }
-    ensures { SeasonSound result × ((limit track : List Float) → held_season result limit track out.new ≡ kept_start) }
+pub fn begin(out: &mut [u8; REPORT_ROOM]) -> Reading
+    ensures { (limit track : List Float) → held_season result limit track out.new ≡ kept_start }
 {
     Reading {
         row: read::begin(),
@@ -38,42 +29,38 @@ pub fn begin(out: &mut [u8]) -> Reading
 
 // To where malformed input ends up, and stays.
 fn malformed(r: Reading) -> Reading
-    requires { SeasonSound r }
     ensures { Becomes r Season.malformed result }
 {
-    Reading {
-        row: read::malformed(r.row),
-        column: Column::Empty,
-        ..r
-    }
+    let mut next = r;
+    next.row = read::malformed(r.row);
+    next.column = Column::Empty;
+    next
 }
 
 // A byte of the first column, other than a blank.
 fn in_column(r: Reading, byte: u8) -> Reading
-    requires { SeasonSound r }
     ensures { Becomes r (Season.in_column (Season.column_after r.column byte)) result }
 {
-    match column_after(r.column, byte) {
-        None => malformed(r),
-        Some(column) => Reading { column, ..r },
-    }
+    let Some(column) = column_after(r.column, byte) else {
+        return malformed(r);
+    };
+    let mut next = r;
+    next.column = column;
+    next
 }
 
 // On in a row of the limit, or of the last track.
 fn on_in_row(r: Reading, second: bool) -> Reading
-    requires { SeasonSound r }
     ensures { Becomes r (Season.on_in_row second) result }
 {
-    Reading {
-        row: read::in_row(r.row, second),
-        column: Column::Empty,
-        ..r
-    }
+    let mut next = r;
+    next.row = read::in_row(r.row, second);
+    next.column = Column::Empty;
+    next
 }
 
 // A row of the limit: before the first track.
 fn limit_row(r: Reading) -> Reading
-    requires { SeasonSound r }
     ensures { Becomes r Season.limit_row result }
 {
     if r.last > 0 {
@@ -85,11 +72,10 @@ fn limit_row(r: Reading) -> Reading
 // All tracks: the last one too, where there is one.
 pub(crate) fn all_done(
     r: Reading,
-    limit: &[f64],
-    track: &[f64],
-    out: &mut [u8],
+    limit: &[f64; FLOATS_KEPT],
+    track: &[f64; FLOATS_KEPT],
+    out: &mut [u8; REPORT_ROOM],
 ) -> Result<Lines, Refusal>
-    requires { SeasonSound r × (length limit.now ≡ floats_kept) × (length track.now ≡ floats_kept) × (length out.old ≡ report_room) }
     ensures out_after { held_tracks result out.new ≡ Season.all_done end_track (held_season r limit.now track.now out.old) }
     ensures tracks_sound { TracksSound result r.last }
 {
@@ -100,11 +86,15 @@ pub(crate) fn all_done(
 }
 
 // The next track begins.
-fn next_track(r: Reading, limit: &[f64], track: &[f64], out: &mut [u8]) -> Reading
-    requires { SeasonSound r × (r.last < most_tracks) × (length limit.now ≡ floats_kept) × (length track.now ≡ floats_kept)
-        × (length out.old ≡ report_room) }
-    ensures { SeasonSound result × (held_season result limit.now track.now out.new
-        ≡ Season.next_track end_track (held_season r limit.now track.now out.old)) }
+fn next_track(
+    r: Reading,
+    limit: &[f64; FLOATS_KEPT],
+    track: &[f64; FLOATS_KEPT],
+    out: &mut [u8; REPORT_ROOM],
+) -> Reading
+    requires { r.last < most_tracks }
+    ensures { held_season result limit.now track.now out.new
+        ≡ Season.next_track end_track (held_season r limit.now track.now out.old) }
 {
     Reading {
         row: read::without_second(r.row),
@@ -115,10 +105,16 @@ fn next_track(r: Reading, limit: &[f64], track: &[f64], out: &mut [u8]) -> Readi
 }
 
 // A row of track n: of the last one, or the first row of the next.
-fn track_row(r: Reading, n: u64, limit: &[f64], track: &[f64], out: &mut [u8]) -> Reading
-    requires { SeasonSound r × (n ≤ most_tracks) × (length limit.now ≡ floats_kept) × (length track.now ≡ floats_kept) × (length out.old ≡ report_room) }
-    ensures { SeasonSound result × (held_season result limit.now track.now out.new
-        ≡ Season.track_row end_track n (held_season r limit.now track.now out.old)) }
+fn track_row(
+    r: Reading,
+    n: u64,
+    limit: &[f64; FLOATS_KEPT],
+    track: &[f64; FLOATS_KEPT],
+    out: &mut [u8; REPORT_ROOM],
+) -> Reading
+    requires { n ≤ most_tracks }
+    ensures { held_season result limit.now track.now out.new
+        ≡ Season.track_row end_track n (held_season r limit.now track.now out.old) }
 {
     if n == r.last {
         return on_in_row(r, true);
@@ -130,10 +126,14 @@ fn track_row(r: Reading, n: u64, limit: &[f64], track: &[f64], out: &mut [u8]) -
 }
 
 // The blank after the first column.
-fn row_of(r: Reading, limit: &[f64], track: &[f64], out: &mut [u8]) -> Reading
-    requires { SeasonSound r × (length limit.now ≡ floats_kept) × (length track.now ≡ floats_kept) × (length out.old ≡ report_room) }
-    ensures { SeasonSound result × (held_season result limit.now track.now out.new
-        ≡ Season.row_of end_track r.column (held_season r limit.now track.now out.old)) }
+fn row_of(
+    r: Reading,
+    limit: &[f64; FLOATS_KEPT],
+    track: &[f64; FLOATS_KEPT],
+    out: &mut [u8; REPORT_ROOM],
+) -> Reading
+    ensures { held_season result limit.now track.now out.new
+        ≡ Season.row_of end_track r.column (held_season r limit.now track.now out.old) }
 {
     match r.column {
         Column::Empty => malformed(r),
@@ -143,22 +143,30 @@ fn row_of(r: Reading, limit: &[f64], track: &[f64], out: &mut [u8]) -> Reading
 }
 
 // A byte of a row after its first column, or of the names line.
-fn in_text(r: Reading, byte: u8, limit: &mut [f64], track: &mut [f64]) -> Reading
-    requires { SeasonSound r × (length limit.old ≡ floats_kept) × (length track.old ≡ floats_kept) }
-    ensures { SeasonSound result × ((out : List ℕ) → held_season result limit.new track.new out
-        ≡ Season.in_text Text.keep (held_season r limit.old track.old out) byte) }
+fn in_text(
+    r: Reading,
+    byte: u8,
+    limit: &mut [f64; FLOATS_KEPT],
+    track: &mut [f64; FLOATS_KEPT],
+) -> Reading
+    ensures { (out : List ℕ) → held_season result limit.new track.new out
+        ≡ Season.in_text Text.keep (held_season r limit.old track.old out) byte }
 {
-    Reading {
-        row: read::step(r.row, byte, limit, track),
-        ..r
-    }
+    let mut next = r;
+    next.row = read::step(r.row, byte, limit, track);
+    next
 }
 
 // One byte.
-fn step(r: Reading, byte: u8, limit: &mut [f64], track: &mut [f64], out: &mut [u8]) -> Reading
-    requires { SeasonSound r × (length limit.old ≡ floats_kept) × (length track.old ≡ floats_kept) × (length out.old ≡ report_room) }
-    ensures { SeasonSound result × (held_season result limit.new track.new out.new
-        ≡ Season.step_with end_track Text.keep (held_season r limit.old track.old out.old) byte) }
+fn step(
+    r: Reading,
+    byte: u8,
+    limit: &mut [f64; FLOATS_KEPT],
+    track: &mut [f64; FLOATS_KEPT],
+    out: &mut [u8; REPORT_ROOM],
+) -> Reading
+    ensures { held_season result limit.new track.new out.new
+        ≡ Season.step_with end_track Text.keep (held_season r limit.old track.old out.old) byte }
 {
     if r.row.place != read::ROW_START {
         return in_text(r, byte, limit, track);
@@ -173,13 +181,12 @@ fn step(r: Reading, byte: u8, limit: &mut [f64], track: &mut [f64], out: &mut [u
 pub fn feed(
     r: Reading,
     bytes: &[u8],
-    limit: &mut [f64],
-    track: &mut [f64],
-    out: &mut [u8],
+    limit: &mut [f64; FLOATS_KEPT],
+    track: &mut [f64; FLOATS_KEPT],
+    out: &mut [u8; REPORT_ROOM],
 ) -> Reading
-    requires { SeasonSound r × (length limit.old ≡ floats_kept) × (length track.old ≡ floats_kept) × (length out.old ≡ report_room) }
-    ensures { SeasonSound result × (held_season result limit.new track.new out.new
-        ≡ kept_fed (held_season r limit.old track.old out.old) bytes.now) }
+    ensures { held_season result limit.new track.new out.new
+        ≡ kept_fed (held_season r limit.old track.old out.old) bytes.now }
 {
     let mut reading = r;
     for byte in bytes {

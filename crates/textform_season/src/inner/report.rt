@@ -2,18 +2,20 @@
 ghost use Rattle.std.specs.Prelude.{◌≡◌, ◌≤◌, length, take};
 ghost use Rattle.arcstring_check.specs.Answer.{unless_refused};
 ghost use Rattle.arcstring_check.specs.Check.{build_check};
-ghost use Rattle.textform.specs.Kept.{floats_kept};
 ghost use Rattle.textform_report.specs.Permille.{most_tracks};
 ghost use Rattle.textform_season.specs.Season.{all_done};
 ghost use Rattle.textform_season.specs.Output.{output};
-ghost use Rattle.textform_season.specs.Kept.{report_room, end_track, held_tracks, TracksSound, held_season, SeasonSound, kept_answer, printed_report};
+ghost use Rattle.textform_season.specs.Kept.{report_room, end_track, held_tracks, TracksSound, kept_answer, printed_report};
+ghost use Rattle.textform_season.specs.Held.{held_season};
 
 use crate::inner::column::Column;
-use crate::inner::read::{Reading, all_done, begin, feed};
+use crate::inner::read::{all_done, begin, feed};
+use crate::inner::reading::Reading;
 use crate::inner::track::Lines;
 use arcstring_check::check::{MOST_FLOATS, Refusal};
 use textform::inner::print::print_refusal;
 use textform::inner::read;
+use textform::inner::read::FLOATS_KEPT;
 use textform_count::inner::count::build_plain;
 use textform_report::inner::lines::put_all;
 
@@ -21,8 +23,8 @@ use textform_report::inner::lines::put_all;
 pub const REPORT_ROOM: usize = 131072;
 
 // What is printed of the tracks: how many bytes of `out`.
-fn print_tracks(tracks: Result<Lines, Refusal>, out: &mut [u8]) -> usize
-    requires { TracksSound tracks most_tracks × (length out.old ≡ report_room) }
+fn print_tracks(tracks: Result<Lines, Refusal>, out: &mut [u8; REPORT_ROOM]) -> usize
+    requires { TracksSound tracks most_tracks }
     ensures { (take result out.new ≡ printed_report (held_tracks tracks out.old)) × (result ≤ report_room) }
 {
     match tracks {
@@ -33,8 +35,12 @@ fn print_tracks(tracks: Result<Lines, Refusal>, out: &mut [u8]) -> usize
 
 // What is printed for a well-formed input: the limit's refusal comes before the tracks', and the limit is built here only to see whether
 // there is one.
-fn print_season(r: Reading, limit: &[f64], track: &[f64], out: &mut [u8]) -> usize
-    requires { SeasonSound r × (length limit.now ≡ floats_kept) × (length track.now ≡ floats_kept) × (length out.old ≡ report_room) }
+fn print_season(
+    r: Reading,
+    limit: &[f64; FLOATS_KEPT],
+    track: &[f64; FLOATS_KEPT],
+    out: &mut [u8; REPORT_ROOM],
+) -> usize
     ensures out_after { take result out.new ≡ (let s = held_season r limit.now track.now out.old in
         printed_report (unless_refused (build_check s.text.a) (all_done end_track s))) }
     ensures upper_bound { result ≤ report_room }
@@ -47,8 +53,12 @@ fn print_season(r: Reading, limit: &[f64], track: &[f64], out: &mut [u8]) -> usi
 }
 
 // What is printed once the input has ended: how many bytes of `out`.
-pub fn conclude(r: Reading, limit: &[f64], track: &[f64], out: &mut [u8]) -> usize
-    requires { SeasonSound r × (length limit.now ≡ floats_kept) × (length track.now ≡ floats_kept) × (length out.old ≡ report_room) }
+pub fn conclude(
+    r: Reading,
+    limit: &[f64; FLOATS_KEPT],
+    track: &[f64; FLOATS_KEPT],
+    out: &mut [u8; REPORT_ROOM],
+) -> usize
     ensures out_after { take result out.new ≡ printed_report (kept_answer (held_season r limit.now track.now out.old)) }
     ensures upper_bound { result ≤ report_room }
 {
@@ -62,12 +72,11 @@ pub fn conclude(r: Reading, limit: &[f64], track: &[f64], out: &mut [u8]) -> usi
 }
 
 // The bytes printed for a whole input: how many bytes of `out`.
-pub fn report_text(input: &[u8], out: &mut [u8]) -> usize
-    requires { length out.old ≡ report_room }
+pub fn report_text(input: &[u8], out: &mut [u8; REPORT_ROOM]) -> usize
     ensures { (take result out.new ≡ output input.now) × (result ≤ report_room) }
 {
-    let mut limit = [0.0; read::FLOATS_KEPT];
-    let mut track = [0.0; read::FLOATS_KEPT];
+    let mut limit = [0.0; FLOATS_KEPT];
+    let mut track = [0.0; FLOATS_KEPT];
     let r = feed(begin(out), input, &mut limit, &mut track, out);
     conclude(r, &limit, &track, out)
 }

@@ -6,8 +6,9 @@ ghost use Rattle.arcstring_visit.specs.Visit.{most_pairs};
 ghost use Rattle.textform_report.specs.Permille.{most_tracks};
 ghost use Rattle.textform_report.specs.Report.{report_for, with_track};
 ghost use Rattle.same_crossings.specs.CountLaws.{sum_of_counts};
-ghost use Rattle.textform_season.specs.Kept.{report_room, end_track, held_tracks, held_lines, TracksSound, LinesSound};
+ghost use Rattle.textform_season.specs.Kept.{end_track, held_tracks, held_lines, TracksSound, LinesSound};
 
+use crate::inner::report::REPORT_ROOM;
 use arcstring_check::check::Refusal;
 use arcstring_tally::counts::Counts;
 use textform_count::inner::count::count_built;
@@ -21,8 +22,7 @@ pub struct Lines {
 }
 
 // No track yet: the heading alone.
-pub(crate) fn no_tracks(out: &mut [u8]) -> Result<Lines, Refusal>
-    requires { length out.old ≡ report_room }
+pub(crate) fn no_tracks(out: &mut [u8; REPORT_ROOM]) -> Result<Lines, Refusal>
     ensures { (held_tracks result out.new ≡ answered (report_for [])) × TracksSound result 0 }
 {
     Ok(Lines {
@@ -37,8 +37,8 @@ pub(crate) fn no_tracks(out: &mut [u8]) -> Result<Lines, Refusal>
 }
 
 // One line more, track n's after those of the tracks before it.
-fn with_track(lines: Lines, n: u64, c: Counts, out: &mut [u8]) -> Lines
-    requires { (1 ≤ n) × (n ≤ most_tracks) × LinesSound lines (n - 1) × (sum_of_counts c ≤ most_pairs) × (length out.old ≡ report_room) }
+fn with_track(lines: Lines, n: u64, c: Counts, out: &mut [u8; REPORT_ROOM]) -> Lines
+    requires { (1 ≤ n) × (n ≤ most_tracks) × LinesSound lines (n - 1) × (sum_of_counts c ≤ most_pairs) }
     ensures { (held_lines result out.new ≡ with_track n (held_lines lines out.old) c) × LinesSound result n }
 {
     Lines {
@@ -53,9 +53,9 @@ fn count_track(
     n: u64,
     limit: &[f64],
     track: &[f64],
-    out: &mut [u8],
+    out: &mut [u8; REPORT_ROOM],
 ) -> Result<Lines, Refusal>
-    requires le_n { (1 ≤ n) × (n ≤ most_tracks) × LinesSound lines (n - 1) × (length out.old ≡ report_room) }
+    requires le_n { (1 ≤ n) × (n ≤ most_tracks) × LinesSound lines (n - 1) }
     requires limit_len_bound { (length limit.now ≤ floats_kept) × (length track.now ≤ floats_kept) }
     ensures out_after { held_tracks result out.new
         ≡ end_track limit.now track.now n (answered (held_lines lines out.old)) }
@@ -71,9 +71,9 @@ pub(crate) fn end_track(
     n: u64,
     limit: &[f64],
     track: &[f64],
-    out: &mut [u8],
+    out: &mut [u8; REPORT_ROOM],
 ) -> Result<Lines, Refusal>
-    requires le_n { (1 ≤ n) × (n ≤ most_tracks) × TracksSound tracks (n - 1) × (length out.old ≡ report_room) }
+    requires le_n { (1 ≤ n) × (n ≤ most_tracks) × TracksSound tracks (n - 1) }
     requires limit_len_bound { (length limit.now ≤ floats_kept) × (length track.now ≤ floats_kept) }
     ensures out_after { held_tracks result out.new
         ≡ end_track limit.now track.now n (held_tracks tracks out.old) }

@@ -10,31 +10,29 @@ use Rattle.arcstring_tally.proofs.Tallies.{tally_kept}
 use Rattle.arcstring_self.proofs.SelfVisits.{self_visits}
 use Rattle.arcstring_self.proofs.with_self.visit_self.Goals as goal
 
-pub visit-t-requires : goal.visit-t-requires
+pub list-t-requires : goal.list-t-requires
 unfolding visits_from
-visit-t-requires c =
+list-t-requires c =
     let v = self_visits _ _ _ _ c.legs-legs.ensures in
     record {
       same = λ e. (refl, refl);
-      room_if = record {
-        fits = λ o. room_at_start _ c.args.points.now c.args.marks.now (room_of _ _ v c.args.points.now c.args.marks.now c.requires);
-      };
+      room = room_at_start _ c.args.points.now c.args.marks.now (room_of _ _ v c.args.points.now c.args.marks.now c.requires);
     }
 
 pub normalize_points-requires : goal.normalize_points-requires
 unfolding visits_from
 normalize_points-requires c =
-    let count : c.visit-t.result ≡ tally_on no_tally (self_pairs c.args.margin c.args.s.v.now c.args.s.closed) =
-    c.visit-t.ensures.value ∙ ap (tally_on no_tally) (self_visits _ _ _ _ c.legs-legs.ensures) in
+    let count : c.list-t.result ≡ tally_on no_tally (self_pairs c.args.margin c.args.s.v.now c.args.s.closed) =
+    c.list-t.ensures.value ∙ ap (tally_on no_tally) (self_visits _ _ _ _ c.legs-legs.ensures) in
     omega (arith, tally_kept _ _ count, c.requires)
 
 pub returns : goal.returns
 unfolding visits_from
 returns c =
     let v = self_visits _ _ _ _ c.legs-legs.ensures in
-    let count : c.visit-t.result ≡ tally_on no_tally (self_pairs c.args.margin c.args.s.v.now c.args.s.closed) =
-    c.visit-t.ensures.value ∙ ap (tally_on no_tally) v in
-    let w = written_of _ _ v _ _ _ _ (c.visit-t.ensures.written_if.on refl) in
+    let count : c.list-t.result ≡ tally_on no_tally (self_pairs c.args.margin c.args.s.v.now c.args.s.closed) =
+    c.list-t.ensures.value ∙ ap (tally_on no_tally) v in
+    let w = written_of _ _ v _ _ _ _ c.list-t.ensures.stored in
     record {
       value = count;
       points_after = normalized-in_place (self_pairs c.args.margin c.args.s.v.now c.args.s.closed) _ _ _ _ (tally_kept _ _ count) w.0

@@ -4,9 +4,10 @@ use mathlib.Core.List.{List, []}
 use Prim.Native.Nat.{ℕ}
 use lib.ListN.{take}
 use lib.Ieee.{Float}
-use Rattle.textform.specs.declared.inner.read.Reader.{Reader}
+use Rattle.textform.specs.declared.inner.reader.Reader.{Reader}
 use Rattle.textform.specs.Text.{State, start, fed_with}
-use Rattle.textform.specs.Kept.{keep, held_state, kept_reading}
+use Rattle.textform.specs.Held.{held_state}
+use Rattle.textform.specs.Kept.{keep, kept_reading}
 use Rattle.textform_count.specs.Count.{count_state, output}
 use Rattle.textform_count.specs.Print.{printed}
 use Rattle.textform_count.proofs.KeptCounts.{kept_counts}

@@ -10,19 +10,20 @@ use lib.Dec.{eqb}
 use lib.Ieee.{Float}
 use borrow.Author.Tests.{eq-eqb, ne_eqb}
 use Rattle.arcstring_check.specs.Answer.{Answer, pick}
-use Rattle.textform.specs.declared.inner.read.Reader.{Reader}
+use Rattle.textform.specs.declared.inner.reader.Reader.{Reader}
 use Rattle.textform.specs.Text.{blank, row_start, State, without_second}
 use Rattle.textform.specs.Text as Plain
-use Rattle.textform.specs.Kept.{keep, held_state, Sound}
-use Rattle.textform.specs.Kept as Text
-use Rattle.textform_report.specs.Permille.{most_tracks}
+use Rattle.textform.specs.Kept.{keep}
+use Rattle.textform.specs.Held.{held_state}
+use Rattle.textform.specs.Held as Text
 use Rattle.textform_report.specs.Report.{Report}
 use Rattle.textform_season.specs.declared.inner.column.Column.{Column}
 use Rattle.textform_season.specs.declared.inner.column.Column.TheVariants as C
-use Rattle.textform_season.specs.declared.inner.read.Reading.{Reading}
+use Rattle.textform_season.specs.declared.inner.reading.Reading.{Reading}
 use Rattle.textform_season.specs.Season.{Season, malformed, in_column, on_in_row, limit_row, all_done, next_track, track_row, row_of, in_text, column_after}
 use Rattle.textform_season.specs.Season.{step_with}
-use Rattle.textform_season.specs.Kept.{ColumnSound, end_track, held_tracks, TracksSound, held_season, SeasonSound, Becomes}
+use Rattle.textform_season.specs.Kept.{end_track, held_tracks, TracksSound}
+use Rattle.textform_season.specs.Held.{held_season}
 use Rattle.arcstring_check.specs.declared.check.Refusal.{Refusal}
 use Rattle.textform_season.specs.declared.inner.track.Lines.{Lines}
 
@@ -31,31 +32,23 @@ Held = Season (Answer Report)
 
 -- ---- the row and the first column
 
-module _ (r : Reading) (sound : SeasonSound r) where
+module _ (r : Reading) where
   -- a change of the row, with another first column
-  pub row_becomes : (change : State → State) (row : Reader) (column : Column) → Text.Becomes r.row change row → ColumnSound column
-      → Becomes r (λ (s : Held). record { text = change s.text; column = column; last = s.last; done = s.done })
-      (record { row = row; column = column; last = r.last; tracks = r.tracks })
-  row_becomes change row column moved within = (
-    record { row = moved.0; column = within; few = sound.few; tracks = sound.tracks },
-    λ limit track out i. record { text = moved.1 limit track i; column = column; last = r.last; done = held_tracks r.tracks out },
-  )
-
-  -- another first column alone
-  pub column_becomes : (column : Column) → ColumnSound column
-      → Becomes r (λ (s : Held). record { text = s.text; column = column; last = s.last; done = s.done })
-      (record { row = r.row; column = column; last = r.last; tracks = r.tracks })
-  column_becomes column within = row_becomes (λ (s : State). s) r.row column (sound.row, λ a b. refl) within
+  pub row_becomes : (change : State → State) (row : Reader) (column : Column) → Text.Becomes r.row change row
+      → (limit track : List Float) (out : List ℕ)
+      → ◌≡◌ {A = Held} (record { text = held_state row limit track; column = column; last = r.last; done = held_tracks r.tracks out })
+      (record { text = change (held_state r.row limit track); column = column; last = r.last; done = held_tracks r.tracks out })
+  row_becomes change row column moved limit track out i =
+      record { text = moved limit track i; column = column; last = r.last; done = held_tracks r.tracks out }
 
   -- the row, whose lists may have changed
   pub text_held : (row : Reader) (byte : ℕ) (limit track limit' track' : List Float)
-      → Sound row × (held_state row limit' track' ≡ Plain.step_with keep (held_state r.row limit track) byte)
-      → (let q : Reading = record { row = row; column = r.column; last = r.last; tracks = r.tracks } in
-      SeasonSound q × ((out : List ℕ) → held_season q limit' track' out ≡ in_text keep (held_season r limit track out) byte))
-  text_held row byte limit track limit' track' stepped = (
-    record { row = stepped.0; column = sound.column; few = sound.few; tracks = sound.tracks },
-    λ out i. record { text = stepped.1 i; column = r.column; last = r.last; done = held_tracks r.tracks out },
-  )
+      → held_state row limit' track' ≡ Plain.step_with keep (held_state r.row limit track) byte
+      → (out : List ℕ)
+      → record { text = held_state row limit' track'; column = r.column; last = r.last; done = held_tracks r.tracks out }
+      ≡ in_text keep (held_season r limit track out) byte
+  text_held row byte limit track limit' track' stepped out i =
+      record { text = stepped i; column = r.column; last = r.last; done = held_tracks r.tracks out }
 
 -- ---- the tracks
 
@@ -85,17 +78,18 @@ module _ (r : Reading) (limit track : List Float) (out : List ℕ) where
       with_last = end_track (take r.row.a limit) (take r.row.b track) r.last (held_tracks r.tracks out)
 
   -- the next one begins
-  pub next-held : (tracks : Result Lines Refusal) (row : Reader) (out' : List ℕ) → r.last < most_tracks → TracksSound tracks r.last
+  pub next-held : (tracks : Result Lines Refusal) (row : Reader) (out' : List ℕ)
       → held_tracks tracks out' ≡ all_done end_track (held_season r limit track out) → Text.Becomes r.row without_second row
-      → (let q : Reading = record { row = row; column = C.Empty; last = r.last + 1; tracks = tracks } in
-      SeasonSound q × (held_season q limit track out' ≡ next_track end_track (held_season r limit track out)))
-  next-held tracks row out' few sound done moved = (
-    record { row = moved.0; column = tt; few = omega arith; tracks = subst (TracksSound tracks) same sound },
-    λ i. record { text = moved.1 limit track i; column = C.Empty; last = r.last + 1; done = done i },
-  )
-    where
-      same : r.last ≡ r.last + 1 - 1
-      same = omega arith
+      → record { text = held_state row limit track; column = C.Empty; last = r.last + 1; done = held_tracks tracks out' }
+      ≡ next_track end_track (held_season r limit track out)
+  next-held tracks row out' done moved i = record { text = moved limit track i; column = C.Empty; last = r.last + 1; done = done i }
+
+-- what is sound of the tracks before one is so before the next one
+pub next_sound : (tracks : Result Lines Refusal) (last : ℕ) → TracksSound tracks last → TracksSound tracks (last + 1 - 1)
+next_sound tracks last sound = subst (TracksSound tracks) same sound
+  where
+    same : last ≡ last + 1 - 1
+    same = omega arith
 
 -- ---- by the tests of the code
 

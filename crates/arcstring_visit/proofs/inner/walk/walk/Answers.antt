@@ -1,4 +1,4 @@
--- The legs of one string against those of another, or of the same, counted and, if the walk writes, written. Assumes nothing.
+-- The legs of one string against those of another, or of the same, counted, and what they keep kept. Assumes nothing.
 use mathlib.Core.Path.{◌≡◌, ◌∙◌}
 use mathlib.Core.List.{◌++◌}
 use Prim.Native.Nat.{ℕ, ◌+◌}
@@ -26,7 +26,7 @@ walk_row-t-requires g c =
         search rules,
         (
           sum_with_row c.loop-i.t _ _ _ c.loop-i.invariant.counted few b.within.1,
-          walk_room _ _ _ _ _ c.requires.room_if c.loop-i.t _ _ _ _ _ next c.loop-i.invariant.written,
+          walk_room g.K.Keep.laws _ _ _ _ _ _ _ _ next c.loop-i.invariant.written,
         ),
       ),
     )
@@ -40,8 +40,7 @@ loop-i-preserved g c =
     = visits_next _ _ _ _ a.string.whole _ a.within.0 _ _ _ _ _ c.requires.same c.loop-i-test.true (c.of-leg.ensures ∙ c.at.ensures) c.row_start-from.ensures in
     record {
       counted = counted_on _ _ _ _ _ _ next c.walk_row-t.ensures.value c.loop-i.invariant.counted;
-      written = walk_on _ _ _ _ _ c.requires.room_if c.loop-i.t _ _ _ _ _ _ _ _ next c.loop-i.invariant.written c.walk_row-t.ensures.value
-          c.walk_row-t.ensures.written_if;
+      written = walk_on g.K.Keep.laws _ _ _ _ _ _ _ _ _ _ next c.loop-i.invariant.written c.walk_row-t.ensures.value c.walk_row-t.ensures.written;
     }
 
 pub returns : goal.returns
@@ -51,5 +50,5 @@ returns g c =
     c.args.b.legs.count c.loop-i.i c.loop-i-test.false in
     record {
       value = counted_all _ _ _ none c.loop-i.invariant.counted;
-      written_if = walk_done _ _ _ _ _ c.requires.room_if c.loop-i.t _ _ _ none c.loop-i.invariant.written;
+      written = walk_done g.K.Keep.laws _ _ _ _ _ _ none c.loop-i.invariant.written;
     }

@@ -1,4 +1,4 @@
--- A leg against the legs at some positions, counted on and, if the walk writes, written. Assumes nothing.
+-- A leg against the legs at some positions, counted on, and what they keep kept. Assumes nothing.
 use mathlib.Core.Path.{◌≡◌, refl}
 use mathlib.Core.List.{[], ◌∷◌, ◌++◌}
 use Prim.Native.Nat.{ℕ, ◌+◌}
@@ -13,18 +13,18 @@ use Rattle.arcstring_visit.proofs.Walks.{walk_start, walk_room, walk_on, walk_do
 use Rattle.arcstring_visit.proofs.inner.walk.walk_found.Goals as goal
 
 pub loop-k-init : goal.loop-k-init
-loop-k-init g c = record { counted = refl; written = walk_start _ _ _ _ _ }
+loop-k-init g c = record { counted = refl; written = walk_start g.K.Keep.laws _ _ _ c.requires.room }
 
 pub pair-p-requires : goal.pair-p-requires
 pair-p-requires g c = (search rules, c.requires.found_in_bounds _ c.loop-k-test.true)
 
-pub store_if-requires : goal.store_if-requires
-store_if-requires g c =
+pub keep-requires : goal.keep-requires
+keep-requires g c =
     let pairs = λ (j : ℕ). found_pairs c.args.margin (leg_of c.args.a.arc) c.args.b.legs.string.v.now c.args.b.legs.string.n c.args.found.now j
     (length c.args.found.now) in
     let next : pairs c.loop-k.k-index ≡ (c.pair-p.result ∷ []) ++ pairs (c.loop-k.k-index + 1) =
     found_next _ _ _ _ _ _ _ _ _ c.loop-k-test.true (le_refl _) refl c.pair-p.ensures in
-    walk_room _ _ _ _ _ c.requires.room_if c.loop-k.t _ _ _ _ _ next c.loop-k.invariant.written
+    walk_room g.K.Keep.laws _ _ _ _ _ _ _ _ next c.loop-k.invariant.written
 
 pub add-t-requires : goal.add-t-requires
 add-t-requires g c =
@@ -40,7 +40,7 @@ loop-k-preserved g c =
     found_next _ _ _ _ _ _ _ _ _ c.loop-k-test.true (le_refl _) refl c.pair-p.ensures in
     record {
       counted = counted_on _ _ _ _ _ _ next c.add-t.ensures c.loop-k.invariant.counted;
-      written = walk_on _ _ _ _ _ c.requires.room_if c.loop-k.t _ _ _ _ _ _ _ _ next c.loop-k.invariant.written c.add-t.ensures c.store_if.ensures;
+      written = walk_on g.K.Keep.laws _ _ _ _ _ _ _ _ _ _ next c.loop-k.invariant.written c.add-t.ensures c.keep.ensures;
     }
 
 pub returns : goal.returns
@@ -48,5 +48,5 @@ returns g c =
     let none = found_none _ _ _ _ _ _ _ c.loop-k-test.false in
     record {
       value = counted_all _ _ _ none c.loop-k.invariant.counted;
-      written_if = walk_done _ _ _ _ _ c.requires.room_if c.loop-k.t _ _ _ none c.loop-k.invariant.written;
+      written = walk_done g.K.Keep.laws _ _ _ _ _ _ none c.loop-k.invariant.written;
     }

@@ -1,9 +1,8 @@
--- `read::begin` gives the state before the first byte. Assumes nothing.
-use mathlib.Core.Path.{refl}
+-- `read::begin` stands within its bounds before the first byte. Assumes nothing.
 use native.Mathlib.Omega.{arith}
 use Rattle.textform.specs.Kept.{digits_before}
 use Rattle.textform.proofs.inner.read.begin.Goals as goal
 
-pub returns : goal.returns
+pub invariant_of-result : goal.invariant_of-result
 unfolding digits_before
-returns c = (record { place = omega arith; word = omega arith; a = omega arith; b = omega arith }, refl, refl, refl)
+invariant_of-result c = record { sound = record { place_within = omega arith; word_fits = omega arith; a_fits = omega arith; b_fits = omega arith } }

@@ -7,7 +7,7 @@ use Rattle.textform.proofs.inner.read.feed.Goals as goal
 
 pub loop-byte-preserved : goal.loop-byte-preserved
 loop-byte-preserved c =
-    (c.step-reader.ensures.0, fed-next (step_with keep) _ _ c.loop-byte.byte-index _ _ c.loop-byte-test.true c.step-reader.ensures.1 c.loop-byte.invariant.1)
+    fed-next (step_with keep) _ _ c.loop-byte.byte-index _ _ c.loop-byte-test.true c.step-reader.ensures c.loop-byte.invariant
 
 pub returns : goal.returns
-returns c = (c.loop-byte.invariant.0, fed_all (step_with keep) _ _ c.loop-byte.byte-index c.loop-byte-test.false ∙ c.loop-byte.invariant.1)
+returns c = fed_all (step_with keep) _ _ c.loop-byte.byte-index c.loop-byte-test.false ∙ c.loop-byte.invariant

@@ -1,9 +1,9 @@
 -- `read::malformed` stays within its bounds: no digit is held. Assumes nothing.
-use mathlib.Core.Path.{refl}
 use native.Mathlib.Omega.{arith}
 use Rattle.textform.specs.Kept.{digits_before}
 use Rattle.textform.proofs.inner.read.malformed.Goals as goal
 
-pub returns : goal.returns
+pub invariant_of-next : goal.invariant_of-next
 unfolding digits_before
-returns c = (record { place = omega arith; word = omega arith; a = omega arith; b = omega arith }, λ a b. refl)
+invariant_of-next c =
+    record { sound = record { place_within = omega arith; word_fits = omega arith; a_fits = c.args.r.sound.a_fits; b_fits = c.args.r.sound.b_fits } }

@@ -4,10 +4,10 @@ use Rattle.textform.proofs.inner.read.Places.{rule_at, some_power}
 use Rattle.textform.proofs.inner.read.take_exactly.Goals as goal
 
 pub onward-requires : goal.onward-requires
-onward-requires c = (c.requires.0, (rule_at _ _ c.requires.1).in-row, some_power _)
+onward-requires c = ((rule_at _ _ c.requires).in-row, some_power _)
 
 pub returns-then-byte-c : goal.returns-then-byte-c
-returns-then-byte-c c = (c.onward.ensures.0, λ a b. rw (eq-eqb _ _ c.if-byte-c.true) (c.onward.ensures.1 a b))
+returns-then-byte-c c a b = rw (eq-eqb _ _ c.if-byte-c.true) (c.onward.ensures a b)
 
 pub returns : goal.returns
-returns c = (c.malformed.ensures.0, λ a b. rw (ne_eqb _ _ c.if-byte-c.false) (c.malformed.ensures.1 a b))
+returns c a b = rw (ne_eqb _ _ c.if-byte-c.false) (c.malformed.ensures a b)

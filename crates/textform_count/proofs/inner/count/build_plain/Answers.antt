@@ -10,6 +10,6 @@ slice_bounds-build-end c = sym (length-take-le _ _ (search rules))
 
 pub returns : goal.returns
 returns c =
-    let whole = plain_built c.args.v.now _ _ _ (length-take-le _ _ (search rules)) c.requires.1 refl _ c.args.out.now _ c.build.ensures.result_value
+    let whole = plain_built c.args.v.now _ _ _ (length-take-le _ _ (search rules)) (search rules) refl _ c.args.out.now _ c.build.ensures.result_value
     c.build.ensures.out_after in
     record { result_value = whole.0; out_after = whole.1 }

@@ -2,7 +2,7 @@
 use mathlib.Core.Path.{sym}
 use native.Mathlib.Omega.{arith}
 use lib.Seq.{length-take-le}
-use Rattle.textform.specs.Kept.{held_state}
+use Rattle.textform.specs.Held.{held_state}
 use Rattle.textform_count.proofs.inner.count.Concluded.{malformed-printed, conclusion_printed}
 use Rattle.textform_count.proofs.inner.count.conclude.Goals as goal
 

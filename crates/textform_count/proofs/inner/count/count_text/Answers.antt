@@ -4,6 +4,6 @@ use Rattle.textform_count.proofs.inner.count.count_text.Goals as goal
 
 pub returns : goal.returns
 returns c = (
-  whole_output _ _ _ _ (begun c.begin.result c.begin.ensures.2 c.begin.ensures.3 _ _ c.begin.ensures.1) c.feed-r.ensures.1 c.conclude.ensures.0,
+  whole_output _ _ _ _ (begun c.begin.result c.begin.ensures.1 c.begin.ensures.2 _ _ c.begin.ensures.0) c.feed-r.ensures c.conclude.ensures.0,
   c.conclude.ensures.1,
 )

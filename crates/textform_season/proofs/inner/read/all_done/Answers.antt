@@ -7,7 +7,7 @@ use Rattle.textform_season.proofs.inner.read.all_done.Goals as goal
 
 pub returns-then-r-eq0 : goal.returns-then-r-eq0
 returns-then-r-eq0 c =
-    let whole = none_done c.args.r c.args.limit.now c.args.track.now c.args.out.now c.if-r-eq0.true c.requires.0.tracks in
+    let whole = none_done c.args.r c.args.limit.now c.args.track.now c.args.out.now c.if-r-eq0.true c.args.r.tracks_within in
     record { out_after = whole.0; tracks_sound = whole.1 }
 
 pub slice_bounds-end_track-end : goal.slice_bounds-end_track-end
@@ -21,7 +21,7 @@ end_track-requires c =
     let limit-most = length-take-le c.args.r.row.a c.args.limit.now (omega arith) in
     let track-most = length-take-le c.args.r.row.b c.args.track.now (omega arith) in
     record {
-      le_n = (omega (arith, c.if-r-eq0.false), c.requires.0.few, c.requires.0.tracks, c.requires.3);
+      le_n = (omega (arith, c.if-r-eq0.false), c.args.r.few, c.args.r.tracks_within);
       limit_len_bound = (omega arith, omega arith);
     }
 

@@ -7,10 +7,8 @@ use Rattle.textform_season.specs.Season.{step_with}
 use Rattle.textform_season.proofs.inner.read.feed.Goals as goal
 
 pub loop-byte-preserved : goal.loop-byte-preserved
-loop-byte-preserved c = (
-  c.step-reading.ensures.0,
-  fed-next (step_with end_track keep) _ _ c.loop-byte.byte-index _ _ c.loop-byte-test.true c.step-reading.ensures.1 c.loop-byte.invariant.1,
-)
+loop-byte-preserved c =
+    fed-next (step_with end_track keep) _ _ c.loop-byte.byte-index _ _ c.loop-byte-test.true c.step-reading.ensures c.loop-byte.invariant
 
 pub returns : goal.returns
-returns c = (c.loop-byte.invariant.0, fed_all (step_with end_track keep) _ _ c.loop-byte.byte-index c.loop-byte-test.false ∙ c.loop-byte.invariant.1)
+returns c = fed_all (step_with end_track keep) _ _ c.loop-byte.byte-index c.loop-byte-test.false ∙ c.loop-byte.invariant

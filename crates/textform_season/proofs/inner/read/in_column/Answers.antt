@@ -1,26 +1,20 @@
--- `in_column` takes one byte more of the first column, by `Held`. Assumes nothing.
+-- `in_column` takes one byte more of the first column. Assumes nothing.
 use mathlib.Core.Path.{ap, ◌∙◌}
 use mathlib.Core.Option.{Option}
 use Rattle.textform_season.specs.declared.inner.column.Column.{Column}
 use Rattle.textform_season.specs.Season.{in_column}
-use Rattle.textform_season.specs.Kept.{held_season}
-use Rattle.textform_season.proofs.inner.read.Held.{column_becomes}
+use Rattle.textform_season.specs.Held.{held_season}
 use Rattle.textform_season.proofs.inner.read.in_column.Goals as goal
 
 pub column_after-requires : goal.column_after-requires
-column_after-requires c = c.requires.column
+column_after-requires c = c.args.r.column_within
 
-pub malformed-requires : goal.malformed-requires
-malformed-requires c = c.requires
+pub returns-in_default : goal.returns-in_default
+returns-in_default c limit track out =
+    c.malformed.ensures limit track out ∙ ap (λ (o : Option Column). in_column o (held_season c.args.r limit track out)) c.in_default.ensures.0
 
-pub returns-in-None : goal.returns-in-None
-returns-in-None c =
-    let q = c.malformed.ensures in
-    let is = c.in-None.ensures.0 in
-    (q.0, λ limit track out. q.1 limit track out ∙ ap (λ (o : Option Column). in_column o (held_season c.args.r limit track out)) is)
+pub invariant_of-next : goal.invariant_of-next
+invariant_of-next c = record { column_within = c.in-Some.ensures.1; few = c.args.r.few; tracks_within = c.args.r.tracks_within }
 
-pub returns-in-Some : goal.returns-in-Some
-returns-in-Some c =
-    let q = column_becomes c.args.r c.requires _ c.in-Some.ensures.1 in
-    let is = c.in-Some.ensures.0 in
-    (q.0, λ limit track out. q.1 limit track out ∙ ap (λ (o : Option Column). in_column o (held_season c.args.r limit track out)) is)
+pub returns : goal.returns
+returns c limit track out = ap (λ (o : Option Column). in_column o (held_season c.args.r limit track out)) c.in-Some.ensures.0

@@ -4,8 +4,8 @@ use Rattle.textform_season.specs.declared.inner.column.Column.TheVariants as C
 use Rattle.textform_season.proofs.inner.read.Held.{row_becomes}
 use Rattle.textform_season.proofs.inner.read.on_in_row.Goals as goal
 
-pub in_row-requires : goal.in_row-requires
-in_row-requires c = c.requires.row
+pub invariant_of-next : goal.invariant_of-next
+invariant_of-next c = record { column_within = tt; few = c.args.r.few; tracks_within = c.args.r.tracks_within }
 
 pub returns : goal.returns
-returns c = row_becomes c.args.r c.requires (in_row c.args.second) _ C.Empty c.in_row.ensures tt
+returns c = row_becomes c.args.r (in_row c.args.second) c.in_row-next.result C.Empty c.in_row-next.ensures

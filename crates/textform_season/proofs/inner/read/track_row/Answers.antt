@@ -2,40 +2,25 @@
 use mathlib.Core.Path.{ap, ◌∙◌}
 use mathlib.Core.Bool.{true}
 use Rattle.textform_season.specs.Season.{on_in_row}
-use Rattle.textform_season.specs.Kept.{held_season}
+use Rattle.textform_season.specs.Held.{held_season}
 use Rattle.textform_season.proofs.inner.read.Held.{same_track, one_more_track, no_such_track}
 use native.Mathlib.Omega.{arith}
 use Rattle.textform_season.proofs.inner.read.track_row.Goals as goal
 
-pub on_in_row-requires : goal.on_in_row-requires
-on_in_row-requires c = c.requires.0
-
 pub returns-then-n-r : goal.returns-then-n-r
-returns-then-n-r c = (
-  c.on_in_row.ensures.0,
-  c.on_in_row.ensures.1 _ _ _
-      ∙ same_track (held_season c.args.r c.args.limit.now c.args.track.now c.args.out.now) c.args.n c.if-n-r.true,
-)
+returns-then-n-r c =
+    c.on_in_row.ensures _ _ _ ∙ same_track (held_season c.args.r c.args.limit.now c.args.track.now c.args.out.now) c.args.n c.if-n-r.true
 
 pub next_track-requires : goal.next_track-requires
-next_track-requires c = (c.requires.0, omega (arith, c.if-n-r-2.true), c.requires.2, c.requires.3, c.requires.4)
-
-pub on_in_row-requires-then-n-r-2 : goal.on_in_row-requires-then-n-r-2
-on_in_row-requires-then-n-r-2 c = c.next_track.ensures.0
+next_track-requires c = omega (arith, c.if-n-r-2.true)
 
 pub returns-then-n-r-2 : goal.returns-then-n-r-2
-returns-then-n-r-2 c = (
-  c.on_in_row-then-n-r-2.ensures.0,
-  c.on_in_row-then-n-r-2.ensures.1 _ _ _ ∙ ap (on_in_row true) c.next_track.ensures.1
-      ∙ one_more_track (held_season c.args.r c.args.limit.now c.args.track.now c.args.out.now) c.args.n c.if-n-r.false c.if-n-r-2.true,
-)
-
-pub malformed-requires : goal.malformed-requires
-malformed-requires c = c.requires.0
+returns-then-n-r-2 c =
+    c.on_in_row-then-n-r-2.ensures _ _ _
+    ∙ ap (on_in_row true) c.next_track.ensures
+    ∙ one_more_track (held_season c.args.r c.args.limit.now c.args.track.now c.args.out.now) c.args.n c.if-n-r.false c.if-n-r-2.true
 
 pub returns : goal.returns
-returns c = (
-  c.malformed.ensures.0,
-  c.malformed.ensures.1 _ _ _
-      ∙ no_such_track (held_season c.args.r c.args.limit.now c.args.track.now c.args.out.now) c.args.n c.if-n-r.false c.if-n-r-2.false,
-)
+returns c =
+    c.malformed.ensures _ _ _
+    ∙ no_such_track (held_season c.args.r c.args.limit.now c.args.track.now c.args.out.now) c.args.n c.if-n-r.false c.if-n-r-2.false

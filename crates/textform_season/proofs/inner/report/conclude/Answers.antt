@@ -3,7 +3,7 @@ use mathlib.Core.Path.{◌≡◌, ap}
 use mathlib.Core.Bool.{false}
 use mathlib.Core.Logic.{inl, inr}
 use Rattle.textform_season.specs.Season.{is_empty}
-use Rattle.textform_season.specs.Kept.{held_season}
+use Rattle.textform_season.specs.Held.{held_season}
 use Rattle.textform_season.proofs.inner.report.Reports.{within_row, within_column, at_row_start}
 use native.Mathlib.Omega.{arith}
 use Rattle.textform_season.proofs.inner.report.conclude.Goals as goal
@@ -15,9 +15,8 @@ returns-then-r-ne-ROW_START c =
       upper_bound = omega arith;
     }
 
-pub print_season-requires : goal.print_season-requires
-print_season-requires c = c.requires
-
+-- At the start of a row, where nothing of its first column has been read,
+-- the input is well formed.
 pub returns-in-Empty : goal.returns-in-Empty
 returns-in-Empty c =
     let s = held_season c.args.r c.args.limit.now c.args.track.now c.args.out.now in

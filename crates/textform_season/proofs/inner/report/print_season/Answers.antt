@@ -3,7 +3,6 @@ use mathlib.Core.Path.{sym}
 use lib.Seq.{length-take-le}
 use Rattle.textform_count.proofs.inner.count.BuiltStrings.{build_refused, build_stands}
 use Rattle.textform_season.proofs.inner.report.Reports.{more_tracks, limit_refused, limit_accepted}
-use borrow.Author.Rules.{rules}
 use native.Mathlib.Omega.{arith}
 use Rattle.textform_season.proofs.inner.report.print_season.Goals as goal
 
@@ -13,13 +12,10 @@ slice_bounds-build_plain-end c = sym (length-take-le _ _ (omega arith))
 pub build_plain-requires : goal.build_plain-requires
 build_plain-requires c =
     let limit-most = length-take-le c.args.r.row.a c.args.limit.now (omega arith) in
-    (omega arith, search rules)
-
-pub all_done-requires : goal.all_done-requires
-all_done-requires c = c.requires
+    omega arith
 
 pub print_tracks-requires : goal.print_tracks-requires
-print_tracks-requires c = (more_tracks c.all_done.result _ _ c.requires.0.few c.all_done.ensures.tracks_sound, search rules)
+print_tracks-requires c = more_tracks c.all_done.result _ _ c.args.r.few c.all_done.ensures.tracks_sound
 
 pub returns-in-Err : goal.returns-in-Err
 returns-in-Err c =

@@ -10,12 +10,12 @@ use Rattle.textform_season.specs.declared.inner.track.Lines.{Lines}
 
 pub put_all-requires : goal.put_all-requires
 put_all-requires c =
-    let sound = subst (λ (t : Result Lines Refusal). TracksSound t most_tracks) c.in-Ok.is c.requires.0 in
+    let sound = subst (λ (t : Result Lines Refusal). TracksSound t most_tracks) c.in-Ok.is c.requires in
     (omega arith, omega arith)
 
 pub returns-in-Ok : goal.returns-in-Ok
 returns-in-Ok c =
-    let sound = subst (λ (t : Result Lines Refusal). TracksSound t most_tracks) c.in-Ok.is c.requires.0 in
+    let sound = subst (λ (t : Result Lines Refusal). TracksSound t most_tracks) c.in-Ok.is c.requires in
     (c.put_all.ensures.1 ∙ sym (ap (λ (t : Result Lines Refusal). printed_report (held_tracks t c.args.out.now)) c.in-Ok.is), omega arith)
 
 pub returns-in-Err : goal.returns-in-Err

@@ -9,7 +9,7 @@ use Rattle.textform_season.proofs.inner.track.count_track.Goals as goal
 pub with_track-requires : goal.with_track-requires
 with_track-requires c =
     let few = pairs_of_track c.args.track.now c.args.limit.now _ (sym c.in_ok-counts.ensures) in
-    (c.requires.le_n.0, c.requires.le_n.1, c.requires.le_n.2, few, c.requires.le_n.3)
+    (c.requires.le_n.0, c.requires.le_n.1, c.requires.le_n.2, few)
 
 pub returns : goal.returns
 returns c =

@@ -12,7 +12,7 @@ pub count_track-requires : goal.count_track-requires
 count_track-requires c =
     let sound = subst (λ (t : Result Lines Refusal). TracksSound t (c.args.n - 1)) c.in_ok-tracks.was c.requires.le_n.2 in
     record {
-      le_n = (c.requires.le_n.0, c.requires.le_n.1, sound, c.requires.le_n.3);
+      le_n = (c.requires.le_n.0, c.requires.le_n.1, sound);
       limit_len_bound = c.requires.limit_len_bound;
     }
 
