@@ -74,7 +74,6 @@
  *      32,500  arcstring_insert_vertices
  *      25,000  arcstring_split_leg
  *      18,000  arcstring_simplify
- *       4,000  arcstring_build
  *       1,000  every other call
  *
  * Threads: the library has no state and takes no lock. Calls may run at the same time, as long as none writes what
