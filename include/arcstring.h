@@ -63,14 +63,14 @@
  * - There is stack enough: nothing is allocated, a call works on the stack of its thread, and with less than it takes
  *   the program is ended at the guard page below it. What it takes at most, in bytes, rounded up, as measured with
  *   strings of 64 and of 1,024 vertices (compare/run stack). Not in it is what the dynamic linker takes once, to find
- *   memcpy, memmove and memset (about 3,100 bytes seen), and what the thread itself takes.
+ *   memcpy and memset (about 3,100 bytes seen), and what the thread itself takes.
  *
  *     161,000  arcstring_split
  *     116,000  arcstring_overlaps
- *      95,000  arcstring_cut_at_marks
  *      92,000  arcstring_crossings, arcstring_crossings_with_self, arcstring_leg_crossings, arcstring_count,
  *              arcstring_crosses, arcstring_crosses_self, arcstring_same_side
  *      66,500  arcstring_equals
+ *      37,500  arcstring_cut_at_marks
  *      32,500  arcstring_insert_vertices
  *      25,000  arcstring_split_leg
  *      18,000  arcstring_simplify
@@ -80,7 +80,7 @@
  * another one is handed.
  *
  * The machine: the library is for x86-64 Linux, any such processor. It is position-independent, and asks of the C
- * library memcpy, memmove and memset alone.
+ * library memcpy and memset alone.
  */
 #ifndef ARCSTRING_H
 #define ARCSTRING_H

@@ -1,12 +1,11 @@
 -- Laws of `splice`: its length, what it leaves, pieces written one after the other, and stores as a splice. Assumes nothing.
 use mathlib.Core.Path.{◌≡◌, sym, ap, ◌∙◌}
 use mathlib.Core.List.{List, [], ◌∷◌, ◌++◌, append_assoc}
-use Prim.Native.Nat.{ℕ, suc, ◌+◌, ◌-◌, ◌≤◌, ◌<◌}
+use Prim.Native.Nat.{ℕ, suc, ◌+◌, ◌≤◌, ◌<◌}
 use native.Mathlib.Numerals.{add-one}
 use native.Mathlib.Omega.{arith}
-use borrow.Rule.Slice.PartMut.{put_mid}
-use lib.ListN.{length, take, drop, set, length-append, length-drop, take-append-drop}
-use lib.Seq.{length-take-le, take_at, drop-append-add, drop-drop, set_split, sets-eq}
+use lib.ListN.{length, get_or, take, drop, set, length-append, length-drop, take-append-drop}
+use lib.Seq.{length-take-le, take_at, take-suc, get_or-drop, drop-append-add, drop-drop, set_split, sets-eq}
 use Rattle.arcstring.specs.Splice.{splice}
 
 module _ {A : Type 0} where
@@ -71,16 +70,6 @@ module _ {A : Type 0} where
   spliced_next old mid last at xs next ys first second h e =
       second ∙ ap (λ (l : List A). splice l next ys) first ∙ splice-next old at xs next ys h e
 
-  -- a part of a list copied from a part of another
-  pub copied-splice : (list old part : List A) (from count to : ℕ) → from + count ≤ length list → part ≡ take (from + count - from) (drop from list)
-      → put_mid to (to + count - to) old part ≡ splice old to (take count (drop from list))
-  unfolding splice
-  copied-splice list old part from count to h after =
-      let m : from + count - from ≡ count = omega arith in
-      let n : to + count - to ≡ count = omega arith in
-      let l : length (take count (drop from list)) ≡ count = length-take-le count (drop from list) (omega (arith, length-drop from list)) in
-      rw (after, m, n, l, drop-drop count to old)
-
   -- one store, and three in a row
   pub set-splice : (old : List A) (at : ℕ) (x : A) → at < length old → set old at x ≡ splice old at (x ∷ [])
   unfolding splice
@@ -100,6 +89,16 @@ module _ {A : Type 0} where
   set_next old out at done i x before count room =
       let l : length out ≡ length old = ap length before ∙ length-splice old at done (omega arith) in
       spliced_next old out (set out (at + i) x) at done (at + i) (x ∷ []) before (set-splice out (at + i) x (omega arith)) (omega arith) (omega arith)
+
+  -- one element more of a part of a list, copied over a part of another
+  pub copied_one_more : (list old out : List A) (from i to : ℕ) (x : A) → from + i < length list → to + i < length old
+      → out ≡ splice old to (take i (drop from list)) → x ≡ get_or list (from + i) x → set out (to + i) x ≡ splice old to (take (i + 1) (drop from list))
+  copied_one_more list old out from i to x known room before read =
+      let run = drop from list in
+      let l : i < length run = rw length-drop (omega arith) in
+      let more : take (i + 1) run ≡ take i run ++ (x ∷ []) =
+      rw add-one (take-suc run i x l) ∙ ap (λ (y : A). take i run ++ (y ∷ [])) (get_or-drop from list i x ∙ sym read) in
+      set_next old out to (take i run) i x before (length-take-le i run (omega arith)) room ∙ ap (splice old to) (sym more)
 
   pub push_next : (old out : List A) (done : List A) (i : ℕ) (x : A) → out ≡ splice old 0 done → length done ≡ i → i < length old
       → set out i x ≡ splice old 0 (done ++ (x ∷ []))

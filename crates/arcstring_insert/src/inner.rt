@@ -1,4 +1,5 @@
-// What inserting, splitting and cutting at marks share: a point put in among vertices, and its number among theirs.
+// What inserting, splitting and cutting share: items moved on in their list, a point put in among vertices, and its number among
+// theirs.
 ghost use Rattle.std.specs.Prelude.{◌≡◌, ◌∷◌, ◌+◌, ◌-◌, ◌*◌, ◌≤◌, ◌<◌, length, take, drop};
 ghost use Rattle.arcstring.specs.Points.{numbered, points};
 ghost use Rattle.arcstring.specs.Splice.{splice};
@@ -8,13 +9,24 @@ use arcstring::inner::vertex;
 use arcstring::inner::vertex::Vertex;
 use sphericalpoint::SphericalPoint;
 
+// The items from position `from` up to `to` moved `by` places on, the last one first. Not by `copy_within`, since the library asks for
+// no memmove.
+pub fn move_on<T: Copy>(list: &mut [T], from: usize, to: usize, by: usize)
+    requires { (from ≤ to) × (to + by ≤ length list.old) }
+    ensures { list.new ≡ splice list.old (from + by) (take (to - from) (drop from list.old)) }
+{
+    for i in (from..to).rev() {
+        list[i + by] = list[i];
+    }
+}
+
 // A point put in as vertex k of n; those from k on stand one place further.
 pub fn insert_vertex(work: &mut [f64], n: usize, k: usize, p: SphericalPoint)
     requires { (k ≤ n) × (3 * n + 3 ≤ length work.old) }
     ensures { work.new ≡ splice work.old (3 * k)
         (p.x ∷ p.y ∷ p.z ∷ take (3 * (n - k)) (drop (3 * k) work.old)) }
 {
-    work.copy_within(3 * k..3 * n, 3 * k + 3);
+    move_on(work, 3 * k, 3 * n, 3);
     vertex::put_vertex(work, k, p);
 }
 
@@ -23,7 +35,7 @@ fn insert_buoy(buoys: &mut [u32], n: usize, k: usize, buoy: u32)
     requires { (k ≤ n) × (n < length buoys.old) }
     ensures { buoys.new ≡ splice buoys.old k (buoy ∷ take (n - k) (drop k buoys.old)) }
 {
-    buoys.copy_within(k..n, k + 1);
+    move_on(buoys, k, n, 1);
     buoys[k] = buoy;
 }
 

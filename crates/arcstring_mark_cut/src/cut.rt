@@ -45,7 +45,8 @@ pub fn cut_at_marks(
 {
     checks::check_string(v, buoys)?;
     checks::check_points(extra, extra_buoys)?;
-    let mut string = Opened::open(Numbered { v, buoys }, closed);
+    let mut string = Opened::empty();
+    string.open(Numbered { v, buoys }, closed);
     string.cut_at_each(Numbered {
         v: extra,
         buoys: extra_buoys,

@@ -70,23 +70,30 @@ impl Opened {
     ghost use Rattle.arcstring_mark_cut.specs.Standing.{cut_there};
     ghost use Rattle.arcstring_mark_cut.specs.OpenedPieces.{pieces_of, still_standing, handed_over};
 
-    // A string opened, as one piece.
-    pub(crate) fn open(string: Numbered, closed: bool) -> Opened
-        requires { (1 ≤ length string.buoys.now) × (length string.buoys.now ≤ most_points) }
-        ensures { pieces_of result ≡ opened (numbered (points string.entry.v.now) string.entry.buoys.now) closed ∷ [] }
+    // The lists before a string is put in: they hold one point.
+    pub(crate) fn empty() -> Opened
+        ensures { (result.points ≡ 1) × (result.count ≡ 1) }
     {
-        let mut v = [0.0; OPENED_FLOATS];
-        let mut buoys = [0; OPENED_POINTS];
-        let points = copy_opened(string, closed, &mut v, &mut buoys);
         let mut counts = [0; MOST_POINTS];
-        counts[0] = points;
+        counts[0] = 1;
         Opened {
-            v,
-            buoys,
+            v: [0.0; OPENED_FLOATS],
+            buoys: [0; OPENED_POINTS],
             counts,
-            points,
+            points: 1,
             count: 1,
         }
+    }
+
+    // A string put in, opened, as one piece. Not handed back by value, so that the lists stand on the stack once.
+    pub(crate) fn open(&mut self, string: Numbered, closed: bool)
+        requires { (1 ≤ length string.buoys.now) × (length string.buoys.now ≤ most_points) }
+        ensures { pieces_of self.new ≡ opened (numbered (points string.entry.v.now) string.entry.buoys.now) closed ∷ [] }
+    {
+        let points = copy_opened(string, closed, &mut self.v, &mut self.buoys);
+        self.counts[0] = points;
+        self.points = points;
+        self.count = 1;
     }
 
     // Piece k, which starts at vertex `at` and whose leg i holds the mark, cut there, unless the mark equals an end of it.

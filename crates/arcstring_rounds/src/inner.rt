@@ -103,7 +103,7 @@ fn simplify_rounds(
         if kept == m {
             return Ok(m);
         }
-        at[..kept].copy_from_slice(&next[..kept]);
+        vertex::copy_items(next, 0, kept, at, 0);
         m = kept;
     }
     Ok(m)

@@ -1,8 +1,11 @@
 -- The call that simplifies a stored string, by the positions that are left. Assumes nothing.
+use Rattle.std.proofs.lemmas.Bool.{cases_lt}
+use mathlib.Core.Logic.{inl, inr}
 use mathlib.Core.Path.{◌≡◌, sym, ap, ◌∙◌}
 use mathlib.Core.Bool.{Bool}
 use mathlib.Core.List.{List, ◌++◌, map, map-map}
 use Prim.Native.Nat.{ℕ, ◌*◌, ◌/◌, ◌≤◌}
+use native.Mathlib.Omega.{arith}
 use lib.ListN.{length, take, drop, length-map}
 use lib.Seq.{length-take-le}
 use lib.Ieee.{Float}
@@ -14,10 +17,26 @@ use Rattle.arcstring.specs.Positions.{positions_from, buoy_at, vertex_at}
 use Rattle.arcstring_check.specs.Check.{string_check, room_check, rooms_check, into_rooms, lent}
 use Rattle.arcstring_check.proofs.Answers.{in-turn, pass, stopped, went_on}
 use Rattle.arcstring_check.proofs.Checks.{stored_whole, string-stored, as_many_buoys}
+use Rattle.arcstring_check.proofs.Rooms.{no_room, room_enough}
 use Rattle.arcstring.proofs.Written.{Leaves, left_refused, left_written}
 use Rattle.arcstring_rounds.specs.Rounds.{simplified}
 use Rattle.arcstring_simplify.specs.Simplify.{simplify}
 use Rattle.arcstring_rounds.proofs.Left.{left_vertices}
+
+-- the second of two buffers is too short, whether the first is or not
+second_lacked : {A : Type 0} (e : Refusal) (m k n l : ℕ) (x : Answer A) → refusal_number e ≡ room_check n l
+    → refused (refusal_number e) ≡ unless_refused (room_check m k) (unless_refused (room_check n l) x)
+second_lacked e m k n l x told =
+    elim (cases_lt l n) [
+      | inl short ↦ elim (cases_lt k m) [
+        | inl both ↦ stopped e _ _ (told ∙ no_room n l short ∙ sym (no_room m k both))
+        | inr fits ↦ stopped e _ _ told ∙ went_on _ _ (sym (room_enough m k fits))
+      ]
+      | inr fits ↦ absurd (
+          let accepted : ◌≡◌ {A = Answer ℕ} (refused (refusal_number e)) (answered 0) = stopped e 0 (answered 0) (told ∙ room_enough n l fits) in
+          let z : ◌≡◌ {A = ℕ} 0 1 = cc in omega arith
+          )
+    ]
 
 module _ (v : List Float) (bs : List ℕ) (closed : Bool) (old : List Float) (old_buoys : List ℕ) where
   abbrev Done : Answer (List Vertex)
@@ -63,19 +82,19 @@ module _ (v : List Float) (bs : List ℕ) (closed : Bool) (old : List Float) (ol
           → Leaves old old_buoys Done (refused (refusal_number e)) old old_buoys
       simplify_no_room e told = left_refused old old_buoys Done (refusal_number e) (stopped e _ _ told ∙ by_rooms)
 
-      module _ (fits : 0 ≡ room_check (3 * n) (length old)) where
-        pub simplify_no_buoy_room : (e : Refusal) → refusal_number e ≡ room_check n (length old_buoys)
-            → Leaves old old_buoys Done (refused (refusal_number e)) old old_buoys
-        simplify_no_buoy_room e told = left_refused old old_buoys Done (refusal_number e) (stopped e _ _ told ∙ went_on _ _ fits ∙ by_rooms)
+      pub simplify_no_buoy_room : (e : Refusal) → refusal_number e ≡ room_check n (length old_buoys)
+          → Leaves old old_buoys Done (refused (refusal_number e)) old old_buoys
+      simplify_no_buoy_room e told =
+          left_refused old old_buoys Done (refusal_number e) (second_lacked e (3 * n) (length old) n (length old_buoys) _ told ∙ by_rooms)
 
-        pub simplify_done : (out : List Float) (out_buoys : List ℕ) → 0 ≡ room_check n (length old_buoys)
-            → out ≡ flat (map (point_at v) (take n at)) ++ drop (3 * length (take n at)) old
-            → out_buoys ≡ map (buoy_at bs) (take n at) ++ drop (length (take n at)) old_buoys
-            → Leaves old old_buoys Done (answered n) out out_buoys
-        simplify_done out out_buoys fits' w u =
-            let l : length (take n at) ≡ n = length-take-le n at room in
-            left_written old old_buoys Done vs n (map (point_at v) (take n at)) (map (buoy_at bs) (take n at)) out out_buoys
-            (went_on _ _ fits' ∙ went_on _ _ fits ∙ by_rooms) long
-            (map-map place_of (vertex_at v bs) (take n at)) (map-map (λ (x : Vertex). x.buoy) (vertex_at v bs) (take n at))
-            (w ∙ ap (λ (m : ℕ). flat (map (point_at v) (take n at)) ++ drop (3 * m) old) l)
-            (u ∙ ap (λ (m : ℕ). map (buoy_at bs) (take n at) ++ drop m old_buoys) l)
+      pub simplify_done : 0 ≡ room_check (3 * n) (length old) → (out : List Float) (out_buoys : List ℕ) → 0 ≡ room_check n (length old_buoys)
+          → out ≡ flat (map (point_at v) (take n at)) ++ drop (3 * length (take n at)) old
+          → out_buoys ≡ map (buoy_at bs) (take n at) ++ drop (length (take n at)) old_buoys
+          → Leaves old old_buoys Done (answered n) out out_buoys
+      simplify_done fits out out_buoys fits' w u =
+          let l : length (take n at) ≡ n = length-take-le n at room in
+          left_written old old_buoys Done vs n (map (point_at v) (take n at)) (map (buoy_at bs) (take n at)) out out_buoys
+          (went_on _ _ fits' ∙ went_on _ _ fits ∙ by_rooms) long
+          (map-map place_of (vertex_at v bs) (take n at)) (map-map (λ (x : Vertex). x.buoy) (vertex_at v bs) (take n at))
+          (w ∙ ap (λ (m : ℕ). flat (map (point_at v) (take n at)) ++ drop (3 * m) old) l)
+          (u ∙ ap (λ (m : ℕ). map (buoy_at bs) (take n at) ++ drop m old_buoys) l)

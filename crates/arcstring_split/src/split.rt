@@ -104,7 +104,8 @@ pub fn split_arcstring_at_points(
 {
     checks::check_string(v, buoys)?;
     checks::check_points(extra, extra_buoys)?;
-    let mut pieces = Pieces::of(Numbered { v, buoys }, closed);
+    let mut pieces = Pieces::empty();
+    pieces.hold(Numbered { v, buoys }, closed);
     let points = Numbered {
         v: extra,
         buoys: extra_buoys,

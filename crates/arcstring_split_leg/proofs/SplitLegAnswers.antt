@@ -1,7 +1,9 @@
 -- What splitting a leg answers, and the buffer after it, from the checks and from the legs that stand in the local list. Assumes nothing.
+use Rattle.std.proofs.lemmas.Bool.{cases_lt}
 use mathlib.Core.Path.{◌≡◌, refl, sym, ap, ap₂, ◌∙◌}
 use mathlib.Core.List.{List, [], ◌∷◌, ◌++◌}
 use mathlib.Core.Option.{Option, none, some}
+use mathlib.Core.Logic.{inl, inr}
 use Prim.Native.Nat.{ℕ, ◌*◌, ◌≤◌, ◌<◌}
 use native.Mathlib.Omega.{arith}
 use lib.ListN.{length, take, drop}
@@ -15,6 +17,7 @@ use Rattle.arcstring_check.specs.Check.{list_check, room_check}
 use Rattle.arcstring.specs.Work.{first_of_list}
 use Rattle.arcstring.specs.Leg.{Leg, leg, leg_check}
 use Rattle.arcstring_check.proofs.Answers.{stopped, went_on}
+use Rattle.arcstring_check.proofs.Rooms.{no_room, room_enough}
 use Rattle.arcstring.proofs.Splices.{take_past_splice, spliced_next, splice-start}
 use Rattle.arcstring.proofs.Firsts.{length-first_of_list}
 use Rattle.arcstring_insert.specs.Steps.{for_each, extra_check}
@@ -46,6 +49,18 @@ legs_written m w old room =
     (ap (λ (ps : List SphericalPoint). flat ps ++ drop (length (flat ps)) old)
     (points_of_legs m (first_of_list (2 * m) w) (length-first_of_list (2 * m) w (omega arith)))
     ∙ ap (λ (v : List Float). v ++ drop (length v) old) (first_floats w (2 * m) (omega arith)))
+
+-- ---- a buffer that is too short for so many elements is too short for more
+
+room_lacked : (e : Refusal) (part all lent : ℕ) → refusal_number e ≡ room_check part lent → part ≤ all → refusal_number e ≡ room_check all lent
+room_lacked e part all lent told within =
+    elim (cases_lt lent part) [
+      | inl short ↦ told ∙ no_room part lent short ∙ sym (no_room all lent (omega arith))
+      | inr fits ↦ absurd (
+          let accepted : ◌≡◌ {A = Answer ℕ} (refused (refusal_number e)) (answered 0) = stopped e 0 (answered 0) (told ∙ room_enough part lent fits) in
+          let z : ◌≡◌ {A = ℕ} 0 1 = cc in omega arith
+          )
+    ]
 
 -- ---- the answer, and the buffer
 
@@ -103,8 +118,11 @@ module _ (l : Leg) (extra old : List Float) where
             ap (λ (n : ℕ). unless_refused (room_check (6 * n) (length old)) (answered (some legs))) (sym count)
             ∙ sym (ap (legs_into (length old)) (two_cut legs (omega (arith, count)))) ∙ ends (answered legs) start one cuts
 
-        pub cramped_split : 2 ≤ m → (e : Refusal) → refusal_number e ≡ room_check (6 * m) (length old) → Splits (refused (refusal_number e)) old
-        cramped_split two e told = by_answer (refused (refusal_number e)) (stopped e _ _ told ∙ by_room two)
+        -- a buffer that is too short for a part of them is too short for all
+        pub cramped_split : 2 ≤ m → (e : Refusal) (part : ℕ) → refusal_number e ≡ room_check part (length old) → part ≤ 6 * m
+            → Splits (refused (refusal_number e)) old
+        cramped_split two e part told less =
+            by_answer (refused (refusal_number e)) (stopped e _ _ (room_lacked e part (6 * m) (length old) told less) ∙ by_room two)
 
         pub written_split : (out : List Float) → 2 ≤ m → 0 ≡ room_check (6 * m) (length old) → out ≡ splice old 0 (take (3 * (2 * m)) w)
             → Splits (answered (some m)) out

@@ -27,7 +27,7 @@ fn reverse_buoys(buoys: &[u32], out: &mut [u32])
     ensures { out.new ≡ reverse buoys.now ++ drop (length buoys.now) out.old }
 {
     let n = buoys.len();
-    out[..n].copy_from_slice(buoys);
+    vertex::copy_items(buoys, 0, n, out, 0);
     out[..n].reverse();
 }
 

@@ -1,4 +1,6 @@
 // What is read of standard input: words, the words of a request that stand before its lists, and the lists.
+ghost use Rattle.std.specs.Prelude.{◌≤◌, length, IfSome};
+
 use std::io::Read;
 use textform::inner::read;
 
@@ -93,10 +95,9 @@ pub(crate) fn read_request(stdin: &mut impl Read) -> Option<Request> {
 
 // A list read into a room: its length, its period (0 for the empty list alone), and as many elements as the period, which the rest of it
 // repeats. None where the input has it not whole, or it passes the room.
-pub(crate) fn read_list<'a, T: Element>(
-    stdin: &mut impl Read,
-    room: &'a mut [T],
-) -> Option<&'a [T]> {
+pub(crate) fn read_list<'a, T: Element>(stdin: &mut impl Read, room: &'a mut [T]) -> Option<&'a [T]>
+    ensures { IfSome result (λ list. length list.now ≤ length room.old) }
+{
     let length = read_size(stdin)?;
     let period = read_size(stdin)?;
     if length > room.len() || period > room.len() || (period == 0 && length > 0) {

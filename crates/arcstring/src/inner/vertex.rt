@@ -102,12 +102,15 @@ pub fn put_vertex(out: &mut [f64], k: usize, p: SphericalPoint)
     out[at + 2] = p.z;
 }
 
-// `count` items of a list from position `from` on, copied to `out` from position `to` on.
+// `count` items of a list from position `from` on, copied to `out` from position `to` on. Not by `copy_from_slice`, since the library
+// asks for no memmove.
 pub fn copy_items<T: Copy>(list: &[T], from: usize, count: usize, out: &mut [T], to: usize)
     requires { (from + count ≤ length list.now) × (to + count ≤ length out.old) }
     ensures { out.new ≡ splice out.old to (take count (drop from list.now)) }
 {
-    out[to..to + count].copy_from_slice(&list[from..from + count]);
+    for i in 0..count {
+        out[to + i] = list[from + i];
+    }
 }
 
 // `count` vertices of `v` from position `from` on, copied to `out` from position `to` on.

@@ -1,5 +1,5 @@
 // The planes of a string's legs, worked out once, the pair test by them, and the pass over them that tells which pairs need no test.
-ghost use Rattle.std.specs.Prelude.{◌≡◌, ℕ, ◌+◌, ◌-◌, ◌≤◌, ◌<◌, eqb, length, get_or, take};
+ghost use Rattle.std.specs.Prelude.{◌≡◌, ◌≢◌, ℕ, ◌+◌, ◌-◌, ◌≤◌, ◌<◌, eqb, length, get_or, take};
 ghost use Rattle.arcstring_check.specs.Answer.{pick};
 ghost use Rattle.arcstring_check.specs.Check.{most_points};
 ghost use Rattle.arcstring.specs.Leg.{leg_of, leg_at};
@@ -80,11 +80,11 @@ impl<const N: usize> Vectors<N> {
         }
     }
 
-    // A vector written as vector k; those before it stay.
+    // A vector written as vector k; the others stay.
     pub fn put(&mut self, k: usize, p: SphericalPoint)
         requires { k < N }
         ensures this { vector_at self.new k ≡ p }
-        ensures others { (j : ℕ) → j < k → vector_at self.new j ≡ vector_at self.old j }
+        ensures others { (j : ℕ) → j ≢ k → vector_at self.new j ≡ vector_at self.old j }
     {
         self.x[k] = p.x;
         self.y[k] = p.y;
@@ -122,11 +122,11 @@ impl<const N: usize> Planes<N> {
         }
     }
 
-    // A plane written as plane k; those before it stay.
+    // A plane written as plane k; the others stay.
     pub fn put(&mut self, k: usize, p: Plane)
         requires { k < N }
         ensures this { plane_at self.new k ≡ p }
-        ensures others { (j : ℕ) → j < k → plane_at self.new j ≡ plane_at self.old j }
+        ensures others { (j : ℕ) → j ≢ k → plane_at self.new j ≡ plane_at self.old j }
     {
         self.normal.put(k, p.normal);
         self.past_start.put(k, p.past_start);
@@ -182,6 +182,23 @@ impl Tested {
     }
 }
 
+// The class of a pair of legs at a margin, by the plane of each: the second is leg k of a string, whose plane is kept as plane k.
+pub fn pair_at<const N: usize>(
+    a: Tested,
+    planes: &Planes<N>,
+    string: Vertices,
+    k: usize,
+    margin: f64,
+) -> Pair
+    requires { (k < string.n) × (k < N) × (plane_at planes.now k ≡ plane_of (leg_at string.v.now string.n k)) }
+    ensures { result ≡ pair_of margin (leg_of a.arc) (leg_at string.entry.v.now string.entry.n k) }
+{
+    let other = planes.at(k);
+    let t = sphericalpoint::xyz_cross(a.plane.normal, other.normal);
+    let s = side_values(a.plane, other, t);
+    class::class_at(t, a.arc, leg::leg_at(string, k), s, margin)
+}
+
 // A string's legs with their planes, which are kept.
 #[derive(Clone, Copy)]
 pub struct Kept<'a, const N: usize> {
@@ -197,10 +214,7 @@ impl<'a, const N: usize> Kept<'a, N> {
         requires { k < self.legs.count }
         ensures { result ≡ pair_of margin (leg_of a.arc) (leg_at self.entry.legs.string.v.now self.entry.legs.string.n k) }
     {
-        let other = self.planes.at(k);
-        let t = sphericalpoint::xyz_cross(a.plane.normal, other.normal);
-        let s = side_values(a.plane, other, t);
-        class::class_at(t, a.arc, self.legs.at(k), s, margin)
+        pair_at(a, self.planes, self.legs.string, k, margin)
     }
 
     // 0 only where a leg's pair with leg k is apart: its side values show it. With no branch, so that a pass over many legs

@@ -36,23 +36,32 @@ pub struct Pieces {
 impl Pieces {
     ghost use Rattle.arcstring_piece.specs.Standing.{standing, held_pieces};
 
-    // A string as the one piece.
-    pub fn of(string: Numbered, closed: bool) -> Pieces
-        requires { (1 ≤ length string.buoys.now) × (length string.buoys.now ≤ most_points) }
-        ensures { standing result ≡ piece (numbered (points string.entry.v.now) string.entry.buoys.now) closed ∷ [] }
+    // The lists before a string is put in: they hold one piece of one point.
+    pub fn empty() -> Pieces
+        ensures { result.count ≡ 1 }
     {
-        let n = string.len();
-        let mut v = [0.0; MOST_FLOATS];
-        let mut buoys = [0; MOST_POINTS];
-        vertex::copy_run(string.v, 0, n, &mut v, 0);
-        vertex::copy_items(string.buoys, 0, n, &mut buoys, 0);
+        let mut counts = [0; MOST_POINTS];
+        counts[0] = 1;
         Pieces {
-            v,
-            buoys,
-            counts: [n; MOST_POINTS],
-            closed: [closed; MOST_POINTS],
+            v: [0.0; MOST_FLOATS],
+            buoys: [0; MOST_POINTS],
+            counts,
+            closed: [false; MOST_POINTS],
             count: 1,
         }
+    }
+
+    // A string put in, as the one piece. Not handed back by value, so that the lists are not copied.
+    pub fn hold(&mut self, string: Numbered, closed: bool)
+        requires { (1 ≤ length string.buoys.now) × (length string.buoys.now ≤ most_points) }
+        ensures { standing self.new ≡ piece (numbered (points string.entry.v.now) string.entry.buoys.now) closed ∷ [] }
+    {
+        let n = string.len();
+        vertex::copy_run(string.v, 0, n, &mut self.v, 0);
+        vertex::copy_items(string.buoys, 0, n, &mut self.buoys, 0);
+        self.counts[0] = n;
+        self.closed[0] = closed;
+        self.count = 1;
     }
 
     // How many vertices they have together.

@@ -13,6 +13,7 @@ use super::piece::Piece;
 use arcstring::inner::vertex;
 use arcstring::inner::vertex::{Numbered, Vertex};
 use arcstring_check::check::MOST_POINTS;
+use arcstring_insert::inner::move_on;
 
 // Room for the points that one piece of a cut is built from.
 const READ_POINTS: usize = MOST_POINTS + 2;
@@ -26,7 +27,7 @@ pub fn replace_item<T: Copy>(list: &mut [T], m: usize, k: usize, first: T, secon
     ensures { list.new ≡ splice list.old k
         (first ∷ second ∷ take (m - (k + 1)) (drop (k + 1) list.old)) }
 {
-    list.copy_within(k + 1..m, k + 2);
+    move_on(list, k + 1, m, 1);
     list[k] = first;
     list[k + 1] = second;
 }

@@ -1,15 +1,17 @@
 -- What a round's answer decides, for code that works on the first m elements of one list and has the round's in another. Assumes nothing.
 use mathlib.Core.Path.{◌≡◌, sym, ap, ◌∙◌}
 use mathlib.Core.Bool.{Bool}
-use mathlib.Core.List.{List, ◌++◌, map}
+use mathlib.Core.List.{List, map}
 use Prim.Native.Nat.{ℕ, ◌≤◌, ◌<◌}
 use native.Mathlib.Omega.{arith}
-use lib.ListN.{length, take}
+use lib.ListN.{length, take, drop}
 use lib.Seq.{length-take-le, take_at}
 use Rattle.sphericalpoint.specs.declared.SphericalPoint.{SphericalPoint}
 use Rattle.arcstring_check.specs.Answer.{Answer, refused, answered}
 use Rattle.arcstring.specs.Positions.{Within}
+use Rattle.arcstring.specs.Splice.{splice}
 use Rattle.arcstring.proofs.Numbered.{within_less}
+use Rattle.arcstring.proofs.Splices.{splice_front}
 use Rattle.arcstring_rounds.specs.Rounds.{unnecessary_positions, remove_all, simplified}
 use Rattle.arcstring_rounds.proofs.inner.Rounds.{round_refuses, as_many_left, fewer_left, few_stay}
 use Rattle.arcstring_rounds.proofs.Simplified.{round_keeps, simplified_keeps}
@@ -38,8 +40,10 @@ module _ {A : Type 0} (pt : A → SphericalPoint) (closed : Bool) (m : ℕ) (at 
         sym (fewer_left pt closed (take m at) many (take kept next) (sym left) (λ e. h (sym (length-take-le kept next room) ∙ e ∙ long))) ∙ before
 
 -- they are copied to the start of the list
-pub copied_front : {A : Type 0} (kept : ℕ) (next front rest : List A) → kept ≤ length next → front ≡ take kept next → take kept (front ++ rest) ≡ take kept next
-copied_front kept next front rest room copied = take_at front rest kept (ap length copied ∙ length-take-le kept next room) ∙ copied
+pub copied_front : {A : Type 0} (kept : ℕ) (next old new : List A) → kept ≤ length next → new ≡ splice old 0 (take kept next) → take kept new ≡ take kept next
+copied_front kept next old new room copied =
+    let long : length (take kept next) ≡ kept = length-take-le kept next room in
+    ap (take kept) (copied ∙ splice_front old kept (take kept next) long) ∙ take_at (take kept next) (drop kept old) kept long
 
 -- two elements at most are left
 pub no_more_rounds : {A : Type 0} (pt : A → SphericalPoint) (closed : Bool) (m : ℕ) (at : List A) (whole : Answer (List A))

@@ -4,4 +4,4 @@ use Rattle.textform_count.specs.Pieces.{ReadInPieces}
 use Rattle.legcount.proofs.read_all.Given as goal
 
 abbrev pub invariant-loop-turn : goal.invariant-loop-turn
-invariant-loop-turn g l = ReadInPieces l.reader l.a l.b
+invariant-loop-turn g l = ReadInPieces (g.R.Read.remaining l.fn.stdin) (g.R.Read.remaining l.stdin) l.reader l.a l.b

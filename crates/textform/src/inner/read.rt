@@ -11,7 +11,7 @@ ghost use Rattle.textform.specs.Held.{held_state, Becomes};
 ghost use Rattle.textform.specs.Kept as Kept;
 ghost use Rattle.arcstring_check.specs.Answer.{option_of};
 
-use super::reader::Reader;
+pub use super::reader::Reader;
 
 // The place of a row's first byte, and so how long the names line is.
 pub const ROW_START: usize = 13;

@@ -8,7 +8,7 @@ ghost use Rattle.textform_season.specs.Kept.{end_track, held_tracks, TracksSound
 ghost use Rattle.textform_season.specs.Held.{held_season, Becomes};
 
 use crate::inner::column::{Column, column_after};
-use crate::inner::reading::Reading;
+pub use crate::inner::reading::Reading;
 use crate::inner::report::REPORT_ROOM;
 use crate::inner::track::{Lines, end_track, no_tracks};
 use arcstring_check::check::Refusal;

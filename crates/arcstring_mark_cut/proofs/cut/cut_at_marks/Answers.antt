@@ -27,8 +27,8 @@ invariant_of-open c =
     (sym c.in_ok-check_points.ensures) in
     record { as_many = omega (arith, both.numbers, both.vertices.triples) }
 
-pub open-string-requires : goal.open-string-requires
-open-string-requires c =
+pub open-requires : goal.open-requires
+open-requires c =
     let both = both_checked c.args.v.now c.args.buoys.now c.args.extra.now c.args.extra_buoys.now (sym c.in_ok-check_string.ensures)
     (sym c.in_ok-check_points.ensures) in
     (omega (arith, both.numbers, both.some), omega (arith, both.numbers, both.vertices.at_most))
@@ -43,14 +43,14 @@ pub returns-in_err-cut_at_each : goal.returns-in_err-cut_at_each
 returns-in_err-cut_at_each c =
     let p = err_from_is_err_and c.from_residual-in_err-cut_at_each.result c.from_residual-in_err-cut_at_each.ensures.1 in
     let whole = cut_refused c.args.v.now c.args.buoys.now c.args.closed c.args.extra.now c.args.extra_buoys.now c.args.out.now c.args.out_buoys.now
-    c.args.counts.now c.in_ok-check_string.ensures c.in_ok-check_points.ensures _ c.open-string.ensures c.cut_at_each.new.self _
+    c.args.counts.now c.in_ok-check_string.ensures c.in_ok-check_points.ensures _ c.open.ensures c.cut_at_each.new.self _
     c.in_err-cut_at_each.ensures in
     record { result_value = rw (p.1, p.2) whole.0; out_after = whole.1.0; out_buoys_after = whole.1.1.0; counts_after = whole.1.1.1 }
 
 pub returns : goal.returns
 returns c =
     let whole = cut_handed c.args.v.now c.args.buoys.now c.args.closed c.args.extra.now c.args.extra_buoys.now c.args.out.now c.args.out_buoys.now
-    c.args.counts.now c.in_ok-check_string.ensures c.in_ok-check_points.ensures _ c.open-string.ensures c.cut_at_each.new.self _ _ _ _
+    c.args.counts.now c.in_ok-check_string.ensures c.in_ok-check_points.ensures _ c.open.ensures c.cut_at_each.new.self _ _ _ _
     c.in_ok-cut_at_each.ensures
     (c.hand_over.ensures.result_value, (c.hand_over.ensures.out_after, (c.hand_over.ensures.out_buoys_after, c.hand_over.ensures.counts_after))) in
     record { result_value = whole.0; out_after = whole.1.0; out_buoys_after = whole.1.1.0; counts_after = whole.1.1.1 }

@@ -1,9 +1,9 @@
 -- `simplify_rounds` works round by round: what is left after each has the answer of the whole. Assumes nothing.
 use Rattle.std.proofs.lemmas.Result.{err_from_is_err_and}
-use mathlib.Core.Path.{◌≡◌, sym, ◌∙◌}
+use mathlib.Core.Path.{◌≡◌, sym}
 use Prim.Native.Nat.{◌/◌}
 use native.Mathlib.Omega.{arith}
-use lib.ListN.{length, take, drop, length-append}
+use lib.ListN.{length, take}
 use lib.Seq.{length-take-le}
 use Rattle.arcstring.specs.Points.{point_at}
 use Rattle.arcstring_rounds.proofs.inner.RoundSteps.{refused_round, last_round, next_round, copied_front, no_more_rounds, round_within}
@@ -29,11 +29,9 @@ pub loop-m-preserved : goal.loop-m-preserved
 loop-m-preserved c =
     let long : length (take c.loop-m.m c.loop-m.at) ≡ c.loop-m.m = length-take-le c.loop-m.m c.loop-m.at (omega arith) in
     let left = c.in_ok-kept.ensures.0 in
-    let front : length c.copy_from_slice.new.self ≡ c.in_ok-kept.kept =
-    c.copy_from_slice.ensures.len ∙ length-take-le c.in_ok-kept.kept c.loop-m.at (omega (arith, c.in_ok-kept.ensures.1)) in
-    let here = copied_front c.in_ok-kept.kept c.round.new.next c.copy_from_slice.new.self (drop c.in_ok-kept.kept c.loop-m.at)
-    (omega (arith, c.in_ok-kept.ensures.1)) c.copy_from_slice.ensures.after in (
-      omega (arith, front, length-append c.copy_from_slice.new.self (drop c.in_ok-kept.kept c.loop-m.at)),
+    let here = copied_front c.in_ok-kept.kept c.round.new.next c.loop-m.at c.copy_items.new.out (omega (arith, c.in_ok-kept.ensures.1))
+    c.copy_items.ensures in (
+      omega (arith, c.copy_items.auto.out, c.in_ok-kept.ensures.1),
       rw here
           (next_round (point_at c.args.v.now) c.args.closed c.loop-m.m c.loop-m.at _ (omega arith) (omega arith) c.loop-m.invariant.1
           c.round.new.next _ (omega (arith, c.in_ok-kept.ensures.1)) left c.if-kept-m.false),

@@ -1,7 +1,7 @@
 -- `simplify_sized` gathers what stands at the positions that the rounds leave. Assumes nothing.
 use Rattle.std.proofs.lemmas.Result.{err_from_is_err_and}
 use mathlib.Core.Path.{sym, subst}
-use Prim.Native.Nat.{ℕ, ◌*◌, ◌≤◌}
+use Prim.Native.Nat.{ℕ, ◌≤◌}
 use native.Mathlib.Omega.{arith}
 use lib.ListN.{length, take}
 use lib.Seq.{length-take-le}
@@ -37,7 +37,7 @@ returns-in_err-check_room-2 g c =
     let p = err_from_is_err_and c.from_residual-in_err-check_room-2.result c.from_residual-in_err-check_room-2.ensures.1 in
     let room : c.in_ok-n.n ≤ length c.simplify_positions.new.at = omega (arith, c.in_ok-n.ensures.1, c.simplify_positions.auto.at) in
     let whole = simplify_no_buoy_room c.args.v.now c.args.buoys.now c.args.closed c.args.out.now c.args.out_buoys.now c.requires.0
-    _ c.simplify_positions.new.at room c.in_ok-n.ensures.0 c.in_ok-check_room.ensures _ c.in_err-check_room-2.ensures in
+    _ c.simplify_positions.new.at room c.in_ok-n.ensures.0 _ c.in_err-check_room-2.ensures in
     record { result_value = rw (p.1, p.2) whole.0; out_after = whole.1.0; out_buoys_after = whole.1.1 }
 
 pub shared_whole_as_front-gather_vertices : goal.shared_whole_as_front-gather_vertices
@@ -46,7 +46,7 @@ shared_whole_as_front-gather_vertices g c = (omega (arith, c.in_ok-n.ensures.1),
 pub gather_vertices-requires : goal.gather_vertices-requires
 gather_vertices-requires g c =
     let room : c.in_ok-n.n ≤ length c.simplify_positions.new.at = omega (arith, c.in_ok-n.ensures.1, c.simplify_positions.auto.at) in
-    let fits = room_fits (3 * c.in_ok-n.n) (length c.args.out.now) (sym c.in_ok-check_room.ensures) in
+    let fits = room_fits _ _ (sym c.in_ok-check_room.ensures) in
     (left-within c.args.v.now c.args.closed _ c.in_ok-n.ensures.0, omega (arith, length-take-le c.in_ok-n.n c.simplify_positions.new.at room, fits))
 
 pub shared_whole_as_front-gather_buoys : goal.shared_whole_as_front-gather_buoys

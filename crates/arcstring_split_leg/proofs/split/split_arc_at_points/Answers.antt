@@ -1,7 +1,6 @@
 -- `split_arc_at_points` answers as its checks do; else the leg is written to a local list and cut there, and the legs are copied out. Assumes nothing.
 use Rattle.std.proofs.lemmas.Result.{err_from_is_err_and}
 use mathlib.Core.Path.{sym}
-use Prim.Native.Nat.{◌*◌}
 use native.Mathlib.Omega.{arith}
 use lib.ListN.{length}
 use Rattle.arcstring.specs.Leg.{leg_of}
@@ -45,13 +44,13 @@ returns-in_err-check_room c =
     let p = err_from_is_err_and c.from_residual-in_err-check_room.result c.from_residual-in_err-check_room.ensures.1 in
     let cuts = rw c.of.ensures.0 at c.in_ok-cut_at_points.ensures in
     let whole = cramped_split (leg_of c.args.arc) c.args.extra.now c.args.out.now c.in_ok-check_leg.ensures c.in_ok-check_list.ensures _
-    (one-leg _ _ _ _ _ _ c.start_of.ensures c.end_of.ensures c.put_vertex.ensures c.put_vertex-2.ensures) _ _ (omega arith) cuts c.if-legs-lt2.false _
-    c.in_err-check_room.ensures in
+    (one-leg _ _ _ _ _ _ c.start_of.ensures c.end_of.ensures c.put_vertex.ensures c.put_vertex-2.ensures) _ _ (omega arith) cuts c.if-legs-lt2.false _ _
+    c.in_err-check_room.ensures (omega arith) in
     record { result_value = rw (p.1, p.2) whole.0; out_after = whole.1 }
 
 pub copy_run-requires : goal.copy_run-requires
 copy_run-requires c =
-    (omega arith, omega (arith, room_fits (6 * c.cut_at_points.new.self.count) (length c.args.out.now) (sym c.in_ok-check_room.ensures)))
+    (omega arith, omega (arith, room_fits _ (length c.args.out.now) (sym c.in_ok-check_room.ensures)))
 
 pub returns : goal.returns
 returns c =
