@@ -1,6 +1,7 @@
 -- What the pair test takes of a leg, worked out once, and that it is all of the leg that the test needs: for inner contracts. Definitions only.
-use Rattle.std.specs.Prelude.{◌≡◌, List, [], ◌∷◌, ◌++◌, ℕ, zero, suc, ◌+◌, ◌<◌, ◌≤◌, get_or, eqb, Float}
+use Rattle.std.specs.Prelude.{◌≡◌, List, [], ◌∷◌, ◌++◌, ℕ, zero, suc, ◌+◌, ◌<◌, ◌≤◌, get_or, eqb, replicate, Float}
 use Rattle.std.specs.Float.{nan}
+use Rattle.ieee754.specs.Value.{zero_float}
 use Rattle.sphericalpoint.specs.declared.SphericalPoint.{SphericalPoint}
 use Rattle.sphericalpoint.specs.Vector.{xyz_cross, xyz_dot, xyz_neg}
 use Rattle.arcstring_crossing.specs.declared.inner.planes.Plane.{Plane}
@@ -23,6 +24,10 @@ plane_sides a b t = xyz_dot a.past_start t ∷ xyz_dot a.before_end t ∷ xyz_do
 
 abbrev pub vector_at : {N : ℕ} → Vectors N → ℕ → SphericalPoint
 vector_at v k = point (get_or v.x k nan) (get_or v.y k nan) (get_or v.z k nan)
+
+-- N zero vectors
+abbrev pub zero_vectors : (N : ℕ) → Vectors N
+zero_vectors N = record { x = replicate N zero_float; y = replicate N zero_float; z = replicate N zero_float }
 
 abbrev pub plane_at : {N : ℕ} → Planes N → ℕ → Plane
 plane_at s k = record { normal = vector_at s.normal k; past_start = vector_at s.past_start k; before_end = vector_at s.before_end k }

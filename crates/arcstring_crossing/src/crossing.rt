@@ -11,8 +11,7 @@ use arcstring::inner::vertex::Vertices;
 use arcstring_check::check::Refusal;
 use arcstring_pair::pair::Pair;
 
-// The class of a pair of legs, each an array of two arrays of three. By the test that the walk makes: so the compiler has
-// one place for it, and makes one piece of it.
+// The class of a pair of legs, each an array of two arrays of three. By the test that the walk makes, over the one plane of the second.
 fn pair_of(arc_a: [[f64; 3]; 2], arc_b: [[f64; 3]; 2]) -> Pair
     ensures { result ≡ pair_of no_margin (leg_of arc_a) (leg_of arc_b) }
 {

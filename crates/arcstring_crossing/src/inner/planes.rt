@@ -5,7 +5,7 @@ ghost use Rattle.arcstring_check.specs.Check.{most_points};
 ghost use Rattle.arcstring.specs.Leg.{leg_of, leg_at};
 ghost use Rattle.arcstring_pair.specs.Pair.{pair_of};
 ghost use Rattle.arcstring_pair.specs.declared.pair.Pair.TheVariants.{Apart};
-ghost use Rattle.arcstring_crossing.specs.Plane.{plane_of, plane_sides, vector_at, plane_at, PlanesOf, AllApart, FlagsOf, flagged_from};
+ghost use Rattle.arcstring_crossing.specs.Plane.{plane_of, plane_sides, vector_at, zero_vectors, plane_at, PlanesOf, AllApart, FlagsOf, flagged_from};
 
 use arcstring::inner::leg;
 use arcstring::inner::vertex::Vertices;
@@ -60,7 +60,9 @@ pub struct Vectors<const N: usize> {
 
 impl<const N: usize> Vectors<N> {
     // N times the zero vector.
-    pub fn zero() -> Vectors<N> {
+    pub fn zero() -> Vectors<N>
+        ensures { result ≡ zero_vectors N }
+    {
         Vectors {
             x: [0.0; N],
             y: [0.0; N],
@@ -102,7 +104,9 @@ pub struct Planes<const N: usize> {
 
 impl<const N: usize> Planes<N> {
     // N planes that are zero, to be written.
-    pub fn zero() -> Planes<N> {
+    pub fn zero() -> Planes<N>
+        ensures { (result.normal ≡ zero_vectors N) × (result.past_start ≡ zero_vectors N) × (result.before_end ≡ zero_vectors N) }
+    {
         Planes {
             normal: Vectors::zero(),
             past_start: Vectors::zero(),
