@@ -1,19 +1,21 @@
 -- The room check at each outcome: 7 where the answer is longer than the buffer, else 0, and then it fits; and a finished answer that is handed over. Assumes
 -- nothing.
 use Rattle.std.specs.Prelude.{Err}
+use Rattle.std.proofs.lemmas.Bool.{cases_lt}
 use mathlib.Core.Path.{◌≡◌, refl, sym, ap, ◌∙◌}
 use mathlib.Core.Bool.{Bool, true, false}
 use mathlib.Core.List.{List}
+use mathlib.Core.Logic.{inl, inr}
 use Prim.Native.Nat.{ℕ, ◌*◌, ◌/◌, ◌≤◌, ◌<◌}
 use native.Mathlib.Omega.{arith}
 use lib.ListN.{length}
 use lib.Dec.{ltb}
 use borrow.Author.Tests.{lt-ltb, le-ltb, ltb-true, ltb-false}
 use Rattle.sphericalpoint.specs.declared.SphericalPoint.{SphericalPoint}
-use Rattle.arcstring_check.specs.Answer.{refused, answered, unless_refused, number_if, refusal_number}
+use Rattle.arcstring_check.specs.Answer.{Answer, refused, answered, unless_refused, number_if, refusal_number}
 use Rattle.arcstring_check.specs.Check.{room_check, rooms_check, into_room}
 use Rattle.arcstring_check.specs.declared.check.Refusal.{Refusal}
-use Rattle.arcstring_check.proofs.Answers.{first_passes, second_passes, first_refused}
+use Rattle.arcstring_check.proofs.Answers.{stopped, first_passes, second_passes, first_refused}
 use Rattle.arcstring_check.proofs.Checks.{if_none}
 
 pub no_room : (needed lent : ℕ) → lent < needed → room_check needed lent ≡ 7
@@ -27,6 +29,17 @@ room_enough needed lent h = ap (λ (b : Bool). number_if b 7) (le-ltb lent neede
 pub room_fits : (needed lent : ℕ) → room_check needed lent ≡ 0 → needed ≤ lent
 unfolding room_check
 room_fits needed lent h = ltb-false lent needed (if_none (ltb lent needed) 6 h)
+
+-- refused, the buffer is too short
+pub room_lacks : (e : Refusal) (needed lent : ℕ) → refusal_number e ≡ room_check needed lent → lent < needed
+room_lacks e needed lent told =
+    elim (cases_lt lent needed) [
+      | inl short ↦ short
+      | inr fits ↦ absurd (
+          let accepted : ◌≡◌ {A = Answer ℕ} (refused (refusal_number e)) (answered 0) = stopped e 0 (answered 0) (told ∙ room_enough needed lent fits) in
+          let z : ◌≡◌ {A = ℕ} 0 1 = cc in omega arith
+          )
+    ]
 
 -- vertices, in a buffer of floats
 vertex_room : (n floats : ℕ) → room_check n (floats / 3) ≡ room_check (3 * n) floats

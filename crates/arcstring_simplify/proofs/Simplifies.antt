@@ -5,7 +5,6 @@ use mathlib.Core.Path.{◌≡◌, sym, ap, ◌∙◌}
 use mathlib.Core.Bool.{Bool}
 use mathlib.Core.List.{List, ◌++◌, map, map-map}
 use Prim.Native.Nat.{ℕ, ◌*◌, ◌/◌, ◌≤◌}
-use native.Mathlib.Omega.{arith}
 use lib.ListN.{length, take, drop, length-map}
 use lib.Seq.{length-take-le}
 use lib.Ieee.{Float}
@@ -17,7 +16,7 @@ use Rattle.arcstring.specs.Positions.{positions_from, buoy_at, vertex_at}
 use Rattle.arcstring_check.specs.Check.{string_check, room_check, rooms_check, into_rooms, lent}
 use Rattle.arcstring_check.proofs.Answers.{in-turn, pass, stopped, went_on}
 use Rattle.arcstring_check.proofs.Checks.{stored_whole, string-stored, as_many_buoys}
-use Rattle.arcstring_check.proofs.Rooms.{no_room, room_enough}
+use Rattle.arcstring_check.proofs.Rooms.{no_room, room_enough, room_lacks}
 use Rattle.arcstring.proofs.Written.{Leaves, left_refused, left_written}
 use Rattle.arcstring_rounds.specs.Rounds.{simplified}
 use Rattle.arcstring_simplify.specs.Simplify.{simplify}
@@ -27,15 +26,9 @@ use Rattle.arcstring_rounds.proofs.Left.{left_vertices}
 second_lacked : {A : Type 0} (e : Refusal) (m k n l : ℕ) (x : Answer A) → refusal_number e ≡ room_check n l
     → refused (refusal_number e) ≡ unless_refused (room_check m k) (unless_refused (room_check n l) x)
 second_lacked e m k n l x told =
-    elim (cases_lt l n) [
-      | inl short ↦ elim (cases_lt k m) [
-        | inl both ↦ stopped e _ _ (told ∙ no_room n l short ∙ sym (no_room m k both))
-        | inr fits ↦ stopped e _ _ told ∙ went_on _ _ (sym (room_enough m k fits))
-      ]
-      | inr fits ↦ absurd (
-          let accepted : ◌≡◌ {A = Answer ℕ} (refused (refusal_number e)) (answered 0) = stopped e 0 (answered 0) (told ∙ room_enough n l fits) in
-          let z : ◌≡◌ {A = ℕ} 0 1 = cc in omega arith
-          )
+    elim (cases_lt k m) [
+      | inl both ↦ stopped e _ _ (told ∙ no_room n l (room_lacks e n l told) ∙ sym (no_room m k both))
+      | inr fits ↦ stopped e _ _ told ∙ went_on _ _ (sym (room_enough m k fits))
     ]
 
 module _ (v : List Float) (bs : List ℕ) (closed : Bool) (old : List Float) (old_buoys : List ℕ) where

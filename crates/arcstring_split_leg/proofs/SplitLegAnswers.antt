@@ -1,9 +1,7 @@
 -- What splitting a leg answers, and the buffer after it, from the checks and from the legs that stand in the local list. Assumes nothing.
-use Rattle.std.proofs.lemmas.Bool.{cases_lt}
 use mathlib.Core.Path.{◌≡◌, refl, sym, ap, ap₂, ◌∙◌}
 use mathlib.Core.List.{List, [], ◌∷◌, ◌++◌}
 use mathlib.Core.Option.{Option, none, some}
-use mathlib.Core.Logic.{inl, inr}
 use Prim.Native.Nat.{ℕ, ◌*◌, ◌≤◌, ◌<◌}
 use native.Mathlib.Omega.{arith}
 use lib.ListN.{length, take, drop}
@@ -17,7 +15,7 @@ use Rattle.arcstring_check.specs.Check.{list_check, room_check}
 use Rattle.arcstring.specs.Work.{first_of_list}
 use Rattle.arcstring.specs.Leg.{Leg, leg, leg_check}
 use Rattle.arcstring_check.proofs.Answers.{stopped, went_on}
-use Rattle.arcstring_check.proofs.Rooms.{no_room, room_enough}
+use Rattle.arcstring_check.proofs.Rooms.{no_room, room_lacks}
 use Rattle.arcstring.proofs.Splices.{take_past_splice, spliced_next, splice-start}
 use Rattle.arcstring.proofs.Firsts.{length-first_of_list}
 use Rattle.arcstring_insert.specs.Steps.{for_each, extra_check}
@@ -54,13 +52,7 @@ legs_written m w old room =
 
 room_lacked : (e : Refusal) (part all lent : ℕ) → refusal_number e ≡ room_check part lent → part ≤ all → refusal_number e ≡ room_check all lent
 room_lacked e part all lent told within =
-    elim (cases_lt lent part) [
-      | inl short ↦ told ∙ no_room part lent short ∙ sym (no_room all lent (omega arith))
-      | inr fits ↦ absurd (
-          let accepted : ◌≡◌ {A = Answer ℕ} (refused (refusal_number e)) (answered 0) = stopped e 0 (answered 0) (told ∙ room_enough part lent fits) in
-          let z : ◌≡◌ {A = ℕ} 0 1 = cc in omega arith
-          )
-    ]
+    let short = room_lacks e part lent told in told ∙ no_room part lent short ∙ sym (no_room all lent (omega arith))
 
 -- ---- the answer, and the buffer
 

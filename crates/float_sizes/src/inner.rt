@@ -10,7 +10,7 @@ pub fn size(x: f64) -> f64
     x.abs()
 }
 
-// The size by value: the larger of x and -x, so one comparison where `size` has two. A zero may keep its sign, which changes no sum's value.
+// The size by value: the larger of x and -x. A zero may keep its sign, which changes no sum's value.
 pub fn magnitude(x: f64) -> f64
     ensures { value result ≡ value (abs x) }
 {

@@ -1,5 +1,5 @@
--- The input in pieces, for programs that read theirs so: what holds of no byte holds of no piece, and what holds of the pieces so far passes to one piece more;
--- of those that a reader gave, and so does what is held of bytes fed in turn. Assumes nothing.
+-- The input in pieces, for programs that read theirs so: what holds of no byte holds of no piece, and what holds of the pieces so far passes to one piece more,
+-- those that a reader gave and has no longer among them; and so does what is held of bytes fed in turn. Assumes nothing.
 use mathlib.Core.Path.{◌≡◌, refl, sym, ap, ◌∙◌, subst}
 use mathlib.Core.List.Memᴰ
 use mathlib.Core.List.{List, [], ◌∷◌, ◌++◌, append-nil, append_assoc, flatten, Memᴰ}
